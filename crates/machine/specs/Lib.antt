@@ -1,0 +1,15 @@
+pub mod Rows
+pub mod Steps
+pub mod Layout
+pub mod Trees
+pub mod Laid
+pub mod Compile
+pub mod Best
+pub mod Bound
+pub mod Words
+pub mod Passed
+pub mod Compiled
+pub mod Answers
+pub mod Coded
+pub mod Replies
+pub mod Examples

@@ -1,0 +1,12 @@
+pub mod Tests
+pub mod Text
+pub mod Node
+pub mod Flat
+pub mod Results
+pub mod Reach
+pub mod Numbering
+pub mod Standard
+pub mod Agrees
+pub mod Bytes
+pub mod Limits
+pub mod Quoted

@@ -1,0 +1,44 @@
+-- The outline's limits and sizes, each under one name.
+use Prim.Native.Nat.{ℕ, _+_, _*_}
+
+-- The longest pattern, in bytes (refusal 1).
+abbrev pub patternLimit : ℕ
+patternLimit = 2048
+
+-- The table words that a pattern of p bytes needs (refusal 2).
+abbrev pub tableWords : ℕ → ℕ
+tableWords p = 32 * (p + 1)
+
+-- The highest count (refusal 8).
+abbrev pub countLimit : ℕ
+countLimit = 1000
+
+-- The deepest parentheses (refusal 13).
+abbrev pub depthLimit : ℕ
+depthLimit = 32
+
+-- The most groups (refusals 14 and 20).
+abbrev pub groupLimit : ℕ
+groupLimit = 15
+
+-- The most rows, and the fewest (refusals 15 and 20).
+abbrev pub rowLimit : ℕ
+rowLimit = 1024
+
+abbrev pub leastRows : ℕ
+leastRows = 8
+
+-- The words of a row, and those that code of n rows needs with its header row (refusals 16 and 20).
+abbrev pub rowWords : ℕ
+rowWords = 12
+
+abbrev pub codeWords : ℕ → ℕ
+codeWords n = rowWords * (n + 1)
+
+-- The longest text, in bytes (refusal 21).
+abbrev pub textLimit : ℕ
+textLimit = 1048576
+
+-- The workspace words that a run of n rows and g groups needs (refusal 24).
+abbrev pub workspaceWords : ℕ → ℕ → ℕ
+workspaceWords n g = 16 * n * (g + 2)
