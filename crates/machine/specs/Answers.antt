@@ -11,12 +11,14 @@ use Rattle.meaning.specs.Tests.{ahead}
 use Rattle.meaning.specs.Text.{Input, Regs, State, size, byteAfter, unset, fits, fits-all, cleared, wiped}
 use Rattle.meaning.specs.Bytes.{textOf, Bytes}
 use Rattle.meaning.specs.Node.{Node, Node.bset, Node.group, Node.many, lo, hi, Proper}
-use Rattle.meaning.specs.Results.{orElse, orElse-none, firstSome, later, moved, fresh, turns, forced, results, first-concatMap, first-stop, first-turns}
+use Rattle.meaning.specs.Results.{orElse, orElse-none, firstSome, later, moved, fresh, turns, forced, results, first-concatMap}
+use Rattle.meaning.specs.Results.{first-stop, first-turns}
 use Rattle.meaning.specs.Standard.{initial, matcher, matchAt, exec, searchFrom}
 use Rattle.meaning.specs.Agrees.{standard}
 use Rattle.meaning.specs.Numbering.{Numbered, Numbers, apart, numbered}
 use Rattle.machine.specs.Rows.{Row, Row.accept, Program, rowCount, rowAt, Key, at}
-use Rattle.machine.specs.Steps.{Move, moveOf, Thread, Machine, steps, begun, Done, best, enough, firstThread, run, matchRow, searchRow}
+use Rattle.machine.specs.Steps.{Move, moveOf, Thread, Machine, steps, begun, Done, best, enough, firstThread, run}
+use Rattle.machine.specs.Steps.{matchRow, searchRow}
 use Rattle.machine.specs.Trees.{Tree.won, first}
 use Rattle.machine.specs.Layout.{anyByte, whole, programOf}
 use Rattle.machine.specs.Laid.{Laid, Laid.chain, Stand, program-stands}
@@ -37,7 +39,8 @@ records w p i row o t d =
     ended move (run w p i row) o d (after move (enough w (rowCount p) i) (begun i ts) o (rw same at (starts move i ts trees)))
 
 -- A thread at a row that accepts wins.
-accepts : (w : Input) (rows : List Row) {k : ℕ} → rowAt rows k ≡ accept → (i : ℕ) (b : Bool) (ρ : Regs) → Run w rows i k b ρ (some ρ)
+accepts : (w : Input) (rows : List Row) {k : ℕ} → rowAt rows k ≡ accept → (i : ℕ) (b : Bool) (ρ : Regs)
+    → Run w rows i k b ρ (some ρ)
 unfolding first
 accepts w rows e i b ρ = record { runs = rw e (record { tree = won; wins = refl }) }
 
@@ -66,7 +69,11 @@ module _ (text : List ℕ) (g : ℕ) (r : Node) (num : Numbers 1 r (suc g)) wher
   matches : (i : ℕ) → i ≤ length text → found (initial g i) ≡ matchAt w g r i
   unfolding matchAt matcher
   matches i h =
-      let apart0 : Numbered (group 0 r) = (apart 0 r 1 (suc g) (omega arith) (omega arith) num, numbered r 1 (suc g) (omega arith) num) in
+      let apart0 : Numbered (group 0 r) = (
+        apart 0 r 1 (suc g) (omega arith) (omega arith) num,
+        numbered r 1 (suc g)
+            (omega arith) num,
+      ) in
       sym (standard w (group 0 r) apart0 (initial g i) (λ y. some (y .regs)) h)
 
   module _ (bytes : Bytes text) where
@@ -74,7 +81,8 @@ module _ (text : List ℕ) (g : ℕ) (r : Node) (num : Numbers 1 r (suc g)) wher
     scans : (n i : ℕ) → i + n ≤ length text
         → firstSome found (turns true (λ y. results w (bset anyByte) (fresh (bset anyByte) y)) n (initial g i)) ≡ exec w g r n i
     unfolding results lo hi cleared wiped
-    scans zero i h = first-stop found true (λ y. results w (bset anyByte) (fresh (bset anyByte) y)) (initial g i) ∙ matches i (omega arith)
+    scans zero i h = first-stop found true (λ y. results w (bset anyByte) (fresh (bset anyByte) y)) (initial g i)
+        ∙ matches i (omega arith)
     scans (suc n) i h =
         rw (
           first-turns,
@@ -107,11 +115,13 @@ module _ (text : List ℕ) (g : ℕ) (r : Node) (num : Numbers 1 r (suc g)) wher
       -- Started at row 5 the machine answers what the standard's match at the start does: none exactly if that finds none.
       pub matched : best (run w program i matchRow) ≡ matchAt w g r i
       matched = records w program i matchRow (matchAt w g r i)
-          (rw (matches i within) at (compile w (program .rows) (stand .pattern) true (initial g i) (λ y. some (y .regs)) within (follows true (initial g i))))
+          (rw (matches i within) at (compile w (program .rows) (stand .pattern) true (initial g i) (λ y. some (y .regs)) within
+          (follows true (initial g i))))
           (ends matchRow (omega arith))
 
       -- Started at row 0 it answers what the standard's search does.
       pub searched : best (run w program i searchRow) ≡ searchFrom w g r i
       searched = records w program i searchRow (searchFrom w g r i)
-          (rw (searches i within) at (compile w (program .rows) (chain (stand .prefix) (stand .pattern)) true (initial g i) (λ y. some (y .regs)) within (follows true (initial g i))))
+          (rw (searches i within) at (compile w (program .rows) (chain (stand .prefix) (stand .pattern)) true (initial g i)
+          (λ y. some (y .regs)) within (follows true (initial g i))))
           (ends searchRow (omega arith))

@@ -11,7 +11,8 @@ use Rattle.meaning.specs.Tests.{and-true, beq-eq, by-test}
 use Rattle.meaning.specs.Text.{Regs}
 use Rattle.meaning.specs.Results.{orElse, orElse-none, orElse-assoc}
 use Rattle.machine.specs.Rows.{Key}
-use Rattle.machine.specs.Steps.{Move, Move.win, Move.lose, Move.eat, Move.on, Move.both, Thread, thread, Machine, Machine.machine}
+use Rattle.machine.specs.Steps.{Move, Move.win, Move.lose, Move.eat, Move.on, Move.both, Thread, thread, Machine}
+use Rattle.machine.specs.Steps.{Machine.machine}
 use Rattle.machine.specs.Steps.{sameKey, among, exec, step, steps, begun, Done, best}
 use Rattle.machine.specs.Trees.{Tree, Tree.won, Tree.lost, Tree.ate, Tree.went, Tree.split, first, rank, rank-unique}
 
@@ -28,7 +29,8 @@ Ahead q a n = IsSome q ⊎ Before a n
 -- Places that are the same are equal.
 same-eq : (p q : Key) → sameKey p q ≡ true → p ≡ q
 same-eq p q e =
-    let h : (eqb (p .row) (q .row) ≡ true) × (Bool·beq (p .flag) (q .flag) ≡ true) = and-true (eqb (p .row) (q .row)) (Bool·beq (p .flag) (q .flag)) e in
+    let h : (eqb (p .row) (q .row) ≡ true) × (Bool·beq (p .flag) (q .flag) ≡ true)
+    = and-true (eqb (p .row) (q .row)) (Bool·beq (p .flag) (q .flag)) e in
     let r : p .row ≡ q .row = eqb→eq (p .row) (q .row) (subst⁻¹ T (h .0) tt) in
     let f : p .flag ≡ q .flag = beq-eq (p .flag) (q .flag) (h .1) in
     λ i. record { row = r i; flag = f i }
@@ -116,7 +118,8 @@ module _ (move : ℕ → Key → Move) where
 
   agrees : (i : ℕ) (ts : List Thread) (g : Trees i ts) → Alike (ranks i ts g) (firsts i ts g)
   agrees i [] g = tt
-  agrees i (t ∷ ts) g = alike-or (rank (g .0)) (ranks i ts (g .1)) (first (g .0) (t .regs)) (firsts i ts (g .1)) (agree (g .0) (t .regs)) (agrees i ts (g .1))
+  agrees i (t ∷ ts) g = alike-or (rank (g .0)) (ranks i ts (g .1)) (first (g .0) (t .regs)) (firsts i ts (g .1))
+      (agree (g .0) (t .regs)) (agrees i ts (g .1))
 
   -- One more thread at the end.
   abbrev snoc : (i : ℕ) (ts : List Thread) (t : Thread) → Trees i ts → Tree move i (move i (t .key)) → Trees i (ts ++ (t ∷ []))
@@ -142,7 +145,8 @@ module _ (move : ℕ → Key → Move) where
   pub record Good (i : ℕ) (a q : List Thread) (s : List Key) (b o : Option Regs) : Type 0 where
     pub now : Trees i a
     pub soon : Trees (suc i) q
-    pub settled : Busy a → (p : Key) → among p s ≡ true → (t : Tree move i (move i p)) → Ahead (ranks (suc i) q soon) (ranks i a now) (rank t)
+    pub settled : Busy a → (p : Key) → among p s ≡ true → (t : Tree move i (move i p))
+        → Ahead (ranks (suc i) q soon) (ranks i a now) (rank t)
     pub says : orElse (firsts (suc i) q soon) (orElse (firsts i a now) b) ≡ o
 
   -- The same of a machine.
@@ -150,7 +154,8 @@ module _ (move : ℕ → Key → Move) where
   Fine (machine i a q s b c) o = Good i a q s b o
 
   -- What holds of the places visited, and of a key that is new, holds of all of them.
-  visited : (i : ℕ) (A : Option ℕ → Type 0) (k : Option ℕ) (p : Key) (s : List Key) → ((u : Tree move i (move i p)) → rank u ≡ k) → A k
+  visited : (i : ℕ) (A : Option ℕ → Type 0) (k : Option ℕ) (p : Key) (s : List Key)
+      → ((u : Tree move i (move i p)) → rank u ≡ k) → A k
       → ((p′ : Key) → among p′ s ≡ true → (u : Tree move i (move i p′)) → A (rank u))
       → (p′ : Key) → among p′ (p ∷ s) ≡ true → (u : Tree move i (move i p′)) → A (rank u)
   visited i A k p s e new old p′ = go (sameKey p′ p) refl
@@ -163,14 +168,21 @@ module _ (move : ℕ → Key → Move) where
   executes : {i : ℕ} {m : Move} (t : Tree move i m) (ρ : Regs) (p : Key)
       (a q : List Thread) (s : List Key) (b : Option Regs) (c : ℕ) (o : Option Regs) (now : Trees i a) (soon : Trees (suc i) q)
       → ((u : Tree move i (move i p)) → rank u ≡ rank t)
-      → ((p′ : Key) → among p′ s ≡ true → (u : Tree move i (move i p′)) → Ahead (ranks (suc i) q soon) (orElse (rank t) (ranks i a now)) (rank u))
+      → ((p′ : Key) → among p′ s ≡ true → (u : Tree move i (move i p′))
+      → Ahead (ranks (suc i) q soon) (orElse (rank t) (ranks i a now)) (rank u))
       → orElse (firsts (suc i) q soon) (orElse (orElse (first t ρ) (firsts i a now)) b) ≡ o
       → Fine (exec m ρ (machine i a q (p ∷ s) b c)) o
   unfolding first rank
   executes {i} won ρ p a q s b c o now soon e old says =
       record { now = tt; soon = soon; settled = λ h. absurd h; says = says }
   executes {i} lost ρ p a q s b c o now soon e old says =
-      record { now = now; soon = soon; settled = λ h. visited i (Ahead (ranks (suc i) q soon) (ranks i a now)) none p s e (inr tt) old; says = says }
+      record {
+        now = now;
+        soon = soon;
+        settled = λ h. visited i (Ahead (ranks (suc i) q soon) (ranks i a now)) none p s e
+            (inr tt) old;
+        says = says;
+      }
   executes {i} (ate {p = p′} t) ρ p a q s b c o now soon e old says =
       let th : Thread = thread p′ ρ in
       let rq : Option ℕ = ranks (suc i) q soon in
@@ -179,7 +191,8 @@ module _ (move : ℕ → Key → Move) where
         now = now;
         soon = snoc (suc i) q th soon t;
         settled = λ h. rw (ranks-snoc (suc i) q th soon t)
-            (visited i (Ahead (orElse rq (rank t)) ra) (Option·map suc (rank t)) p s e (waited rq (rank t) ra) (λ p″ h′ u. waits rq (rank t) ra (rank u) (old p″ h′ u)));
+            (visited i (Ahead (orElse rq (rank t)) ra) (Option·map suc (rank t)) p s e (waited rq (rank t) ra)
+            (λ p″ h′ u. waits rq (rank t) ra (rank u) (old p″ h′ u)));
         says = rw (firsts-snoc (suc i) q th soon t, orElse-assoc, ← orElse-assoc (first t ρ) (firsts i a now) b) says;
       }
   executes {i} (went {p = p′} t) ρ p a q s b c o now soon e old says =
@@ -200,14 +213,21 @@ module _ (move : ℕ → Key → Move) where
         now = (t, (t′, now));
         soon = soon;
         settled = λ h. rw (← orElse-assoc (rank t) (rank t′) ra)
-            (visited i (Ahead rq (orElse k ra)) (Option·map suc k) p s e (moved rq k ra) (λ p″ h′ u. moves rq k ra (rank u) (old p″ h′ u)));
+            (visited i (Ahead rq (orElse k ra)) (Option·map suc k) p s e (moved rq k ra)
+            (λ p″ h′ u. moves rq k ra (rank u) (old p″ h′ u)));
         says = rw (← orElse-assoc (first t ρ) (first t′ ρ) (firsts i a now)) says;
       }
 
   -- A step keeps a machine good.
   pub keeps : (M : Machine) (o : Option Regs) → Fine M o → Fine (step move M) o
   keeps (machine i [] [] s b c) o g = g
-  keeps (machine i [] (t ∷ q) s b c) o g = record { now = g .soon; soon = tt; settled = λ h p h′. absurd (false≢true h′); says = g .says }
+  keeps (machine i [] (t ∷ q) s b c) o g = record {
+    now = g .soon;
+    soon = tt;
+    settled = λ h p h′. absurd
+        (false≢true h′);
+    says = g .says;
+  }
   keeps (machine i (t ∷ a) q s b c) o g = by-test (λ M. Fine M o) (among (t .key) s) drop move-on
     where
       u : Tree move i (move i (t .key))
@@ -224,11 +244,13 @@ module _ (move : ℕ → Key → Move) where
             now = g .now .1;
             soon = g .soon;
             settled = λ h′ p h″ v. drops rq (rank u) ra (rank v) h (g .settled tt p h″ v);
-            says = sym (dropped rq (rank u) ra fq (first u (t .regs)) fa b h (agrees (suc i) q (g .soon)) (agree u (t .regs))) ∙ g .says;
+            says = sym (dropped rq (rank u) ra fq (first u (t .regs)) fa b h (agrees (suc i) q (g .soon)) (agree u (t .regs)))
+                ∙ g .says;
           }
 
       move-on : among (t .key) s ≡ false → Fine (exec (move i (t .key)) (t .regs) (machine i a q (t .key ∷ s) b (suc c))) o
-      move-on e = executes u (t .regs) (t .key) a q s b (suc c) o (g .now .1) (g .soon) (λ v. rank-unique v u) (g .settled tt) (g .says)
+      move-on e = executes u (t .regs) (t .key) a q s b (suc c) o (g .now .1) (g .soon) (λ v. rank-unique v u) (g .settled tt)
+          (g .says)
 
   -- A machine that begins with threads is good, and will end with the first that wins in their trees.
   pub starts : (i : ℕ) (ts : List Thread) (g : Trees i ts) → Fine (begun i ts) (firsts i ts g)

@@ -13,7 +13,8 @@ use Rattle.meaning.specs.Tests.{eq-true, by-test}
 use Rattle.meaning.specs.Text.{Regs}
 use Rattle.meaning.specs.Reach.{All, all-append}
 use Rattle.machine.specs.Rows.{Key, at}
-use Rattle.machine.specs.Steps.{Move, Move.win, Move.lose, Move.eat, Move.on, Move.both, Thread, thread, Machine, Machine.machine}
+use Rattle.machine.specs.Steps.{Move, Move.win, Move.lose, Move.eat, Move.on, Move.both, Thread, thread, Machine}
+use Rattle.machine.specs.Steps.{Machine.machine}
 use Rattle.machine.specs.Steps.{sameKey, among, exec, step, steps, begun, Done, count}
 
 -- How many places of the first n rows are not in a list.
@@ -51,8 +52,20 @@ missing-self : (p : Key) (s : List Key) → among p s ≡ false → suc (missing
 missing-self p s e = rw (sameKey-refl p, e) (omega arith)
 
 spend-last : (n : ℕ) (b : Bool) (s : List Key) → among (at n b) s ≡ false → suc (free (suc n) (at n b ∷ s)) ≤ free (suc n) s
-spend-last n false s e = omega (arith, missing-self (at n false) s e, missing-cons (at n true) (at n false) s, free-cons n (at n false) s)
-spend-last n true s e = omega (arith, missing-self (at n true) s e, missing-cons (at n false) (at n true) s, free-cons n (at n true) s)
+spend-last n false s e = omega (
+  arith,
+  missing-self (at n false) s e,
+  missing-cons (at n true) (at n false) s,
+  free-cons n
+      (at n false) s,
+)
+spend-last n true s e = omega (
+  arith,
+  missing-self (at n true) s e,
+  missing-cons (at n false) (at n true) s,
+  free-cons n
+      (at n true) s,
+)
 
 spend : (n : ℕ) (p : Key) (s : List Key) → p .row < n → among p s ≡ false → suc (free n (p ∷ s)) ≤ free n s
 spend zero p s h e = absurd (omega arith)
@@ -121,14 +134,47 @@ module _ (n size start cap : ℕ) where
       record { paid = paid; now = h; soon = tt; wide = wide; space = omega arith; wait = omega arith }
 
   executes : (i : ℕ) (m : Move) (ρ : Regs) (a q : List Thread) (s : List Key) (b : Option Regs) (c : ℕ) → Inside n size i m
-      → Bounded i a q s c → length a + 2 + free n s ≤ cap + (n + n) → length q + 1 + free n s ≤ n + n → Bound (exec m ρ (machine i a q s b c))
-  executes i win ρ a q s b c h g r v = record { paid = g .paid; now = tt; soon = g .soon; wide = g .wide; space = omega arith; wait = g .wait }
+      → Bounded i a q s c → length a + 2 + free n s ≤ cap + (n + n) → length q + 1 + free n s ≤ n + n
+      → Bound (exec m ρ (machine i a q s b c))
+  executes i win ρ a q s b c h g r v
+      = record { paid = g .paid; now = tt; soon = g .soon; wide = g .wide; space = omega arith; wait = g .wait }
   executes i lose ρ a q s b c h g r v = g
   executes i (eat p) ρ a q s b c h g r v =
-      let soon : All (λ t. Below t × (i < size)) (q ++ (thread p ρ ∷ [])) = all-append (λ t. Below t × (i < size)) q (thread p ρ ∷ []) (g .soon) (h, tt) in
-      record { paid = g .paid; now = g .now; soon = soon; wide = g .wide; space = g .space; wait = rw length-append (omega arith) }
-  executes i (on f p) ρ a q s b c h g r v = record { paid = g .paid; now = (h, g .now); soon = g .soon; wide = g .wide; space = omega arith; wait = g .wait }
-  executes i (both p p′) ρ a q s b c h g r v = record { paid = g .paid; now = (h .0, (h .1, g .now)); soon = g .soon; wide = g .wide; space = omega arith; wait = g .wait }
+      let soon : All (λ t. Below t × (i < size)) (q ++ (thread p ρ ∷ []))
+      = all-append (λ t. Below t × (i < size)) q (thread p ρ ∷ []) (g .soon) (h, tt) in
+      record {
+        paid = g .paid;
+        now = g .now;
+        soon = soon;
+        wide = g .wide;
+        space = g .space;
+        wait = rw length-append
+            (omega arith);
+      }
+  executes i (on f p) ρ a q s b c h g r v = record {
+    paid = g .paid;
+    now =
+        (h, g .now);
+    soon = g .soon;
+    wide = g .wide;
+    space = omega arith;
+    wait = g .wait;
+  }
+  executes i (both p p′) ρ a q s b c h g r v
+      = record {
+        paid = g .paid;
+        now = (
+          h .0,
+          (
+            h .1,
+            g .now,
+          ),
+        );
+        soon = g .soon;
+        wide = g .wide;
+        space = omega arith;
+        wait = g .wait;
+      }
 
   lower : (i : ℕ) (q : List Thread) → All (λ t. Below t × (i < size)) q → All Below q
   lower i [] h = tt
@@ -141,7 +187,13 @@ module _ (n size start cap : ℕ) where
     keeps (machine i [] (t ∷ q) s b c) g =
         let p : Paid i s c = g .paid in
         record {
-          paid = record { k = suc (p .k); here = omega (arith, p .here); within = g .soon .0 .1; spent = omega (arith, p .spent, free-all n, suc-mul (suc (p .k)) (n + n)) };
+          paid = record {
+            k = suc (p .k);
+            here = omega (arith, p .here);
+            within = g .soon .0 .1;
+            spent = omega
+                (arith, p .spent, free-all n, suc-mul (suc (p .k)) (n + n));
+          };
           now = lower i (t ∷ q) (g .soon);
           soon = tt;
           wide = g .wide;
@@ -151,16 +203,39 @@ module _ (n size start cap : ℕ) where
     keeps (machine i (t ∷ a) q s b c) g = by-test Bound (among (t .key) s) drop move-on
       where
         drop : among (t .key) s ≡ true → Bounded i a q s c
-        drop e = record { paid = g .paid; now = g .now .1; soon = g .soon; wide = g .wide; space = omega (arith, g .space); wait = g .wait }
+        drop e = record {
+          paid = g .paid;
+          now = g .now .1;
+          soon = g .soon;
+          wide = g .wide;
+          space = omega
+              (arith, g .space);
+          wait = g .wait;
+        }
 
         move-on : among (t .key) s ≡ false → Bound (exec (move i (t .key)) (t .regs) (machine i a q (t .key ∷ s) b (suc c)))
         move-on e =
             let p : Paid i s c = g .paid in
             let f : suc (free n (t .key ∷ s)) ≤ free n s = spend n (t .key) s (g .now .0) e in
-            let p′ : Paid i (t .key ∷ s) (suc c) = record { k = p .k; here = p .here; within = p .within; spent = omega (arith, p .spent) } in
+            let p′ : Paid i (t .key ∷ s) (suc c) = record {
+              k = p .k;
+              here = p .here;
+              within = p .within;
+              spent = omega
+                  (arith, p .spent);
+            } in
             let g′ : Bounded i a q (t .key ∷ s) (suc c)
-            = record { paid = p′; now = g .now .1; soon = g .soon; wide = g .wide; space = omega (arith, g .space); wait = omega (arith, g .wait) } in
-            executes i (move i (t .key)) (t .regs) a q (t .key ∷ s) b (suc c) (inside i (t .key) (g .now .0)) g′ (omega (arith, g .space)) (omega (arith, g .wait))
+            = record {
+              paid = p′;
+              now = g .now .1;
+              soon = g .soon;
+              wide = g .wide;
+              space = omega (arith, g .space);
+              wait = omega
+                  (arith, g .wait);
+            } in
+            executes i (move i (t .key)) (t .regs) a q (t .key ∷ s) b (suc c) (inside i (t .key) (g .now .0)) g′
+            (omega (arith, g .space)) (omega (arith, g .wait))
 
     -- A step leaves less to do, until the machine has ended.
     pub less : (M : Machine) → Bound M → Done M ⊎ (left (step move M) < left M)
@@ -170,7 +245,8 @@ module _ (n size start cap : ℕ) where
         let d : size - i ≡ suc (size - suc i) = omega (arith, g .soon .0 .1) in
         let e : (size - i) * w ≡ (size - suc i) * w + w = ap (λ z. z * w) d ∙ suc-mul (size - suc i) w in
         inr (omega (arith, e, g .wait, free-all n))
-    less (machine i (t ∷ a) q s b c) g = inr (by-test (λ M. left M < left (machine i (t ∷ a) q s b c)) (among (t .key) s) (λ e. omega arith) move-on)
+    less (machine i (t ∷ a) q s b c) g = inr (by-test (λ M. left M < left (machine i (t ∷ a) q s b c)) (among (t .key) s)
+        (λ e. omega arith) move-on)
       where
         moves : (m : Move) (ρ : Regs) (c′ : ℕ) → suc (free n (t .key ∷ s)) ≤ free n s
             → left (exec m ρ (machine i a q (t .key ∷ s) b c′)) < left (machine i (t ∷ a) q s b c)
@@ -180,7 +256,8 @@ module _ (n size start cap : ℕ) where
         moves (on f p) ρ c′ h = omega arith
         moves (both p p′) ρ c′ h = omega arith
 
-        move-on : among (t .key) s ≡ false → left (exec (move i (t .key)) (t .regs) (machine i a q (t .key ∷ s) b (suc c))) < left (machine i (t ∷ a) q s b c)
+        move-on : among (t .key) s ≡ false → left
+            (exec (move i (t .key)) (t .regs) (machine i a q (t .key ∷ s) b (suc c))) < left (machine i (t ∷ a) q s b c)
         move-on e = moves (move i (t .key)) (t .regs) (suc c) (spend n (t .key) s (g .now .0) e)
 
     -- So it is after any number of steps.
@@ -207,10 +284,12 @@ module _ (n size start cap : ℕ) where
         go (inr l) = absurd (omega arith)
     ends (suc m) M g h = go (less M g) (λ l. ends m (step move M) (keeps M g) (omega arith))
       where
-        go : Done M ⊎ (left (step move M) < left M) → (left (step move M) < left M → Done (steps move (suc m) M)) → Done (steps move (suc m) M)
+        go : Done M ⊎ (left (step move M) < left M) → (left (step move M) < left M → Done (steps move (suc m) M))
+            → Done (steps move (suc m) M)
         go (inl d) f = subst⁻¹ Done (stays (suc m) M d) d
         go (inr l) f = f l
 
   -- What is left to do when the machine begins.
-  pub left-begun : (ts : List Thread) → left (begun start ts) ≡ (size - start) * suc (n + n + (n + n) + (n + n)) + (n + n + (n + n)) + length ts
+  pub left-begun : (ts : List Thread) → left (begun start ts) ≡ (size - start) * suc (n + n + (n + n) + (n + n)) +
+      (n + n + (n + n)) + length ts
   left-begun ts = omega (arith, free-all n)

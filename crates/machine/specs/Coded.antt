@@ -14,12 +14,14 @@ use Rattle.meaning.specs.Node.{Node, Proper}
 use Rattle.meaning.specs.Numbering.{Numbers}
 use Rattle.meaning.specs.Results.{concatMap}
 use Rattle.meaning.specs.Limits.{groupLimit, rowLimit, leastRows, rowWords, codeWords}
-use Rattle.machine.specs.Rows.{Row, Row.accept, Row.consume, Row.jump, Row.fork, Row.opens, Row.closes, Row.reset, Row.begin, Row.end, Row.assertion}
+use Rattle.machine.specs.Rows.{Row, Row.accept, Row.consume, Row.jump, Row.fork, Row.opens, Row.closes, Row.reset}
+use Rattle.machine.specs.Rows.{Row.begin, Row.end, Row.assertion}
 use Rattle.machine.specs.Rows.{Program, rowCount, rowAt}
 use Rattle.machine.specs.Layout.{sizeOf, programOf}
 use Rattle.machine.specs.Laid.{Stand, program-stands}
 use Rattle.machine.specs.Compiled.{Rules, every-row, compiled-passes}
-use Rattle.machine.specs.Words.{wordAt, rowStart, decodeRow, rowIn, rowsIn, decode, wordsOf, codeOf, rowsPass, headerPasses, codePasses}
+use Rattle.machine.specs.Words.{wordAt, rowStart, decodeRow, rowIn, rowsIn, decode, wordsOf, codeOf, rowsPass}
+use Rattle.machine.specs.Words.{headerPasses, codePasses}
 
 -- The rows of decoded code, by their address.
 pub rowsIn-length : (code : List ℕ) (n q : ℕ) → length (rowsIn code n q) ≡ n
@@ -88,17 +90,21 @@ cut : (rows : List Row) → ((q : ℕ) → q < length rows → Whole (rowAt rows
 cut [] h q l = absurd (omega arith)
 cut (row ∷ rows) h zero l = record { before = []; after = concatMap wordsOf rows; parts = refl; long = refl }
 cut (row ∷ rows) h (suc q) l =
-    let c : Cut (concatMap wordsOf rows) (rowAt rows q) (rowWords * q) = cut rows (λ j k. h (suc j) (omega arith)) q (omega arith) in
+    let c : Cut (concatMap wordsOf rows) (rowAt rows q) (rowWords * q)
+    = cut rows (λ j k. h (suc j) (omega arith)) q (omega arith) in
     record {
       before = wordsOf row ++ c .before;
       after = c .after;
-      parts = ap (λ x. wordsOf row ++ x) (c .parts) ∙ sym (append-assoc (wordsOf row) (c .before) (wordsOf (rowAt rows q) ++ c .after));
+      parts = ap (λ x. wordsOf row ++ x) (c .parts)
+          ∙ sym (append-assoc (wordsOf row) (c .before) (wordsOf (rowAt rows q) ++ c .after));
       long = rw length-append (omega (arith, h 0 (omega arith), c .long));
     }
 
-length-rows : (rows : List Row) → ((q : ℕ) → q < length rows → Whole (rowAt rows q)) → length (concatMap wordsOf rows) ≡ rowWords * length rows
+length-rows : (rows : List Row) → ((q : ℕ) → q < length rows → Whole (rowAt rows q))
+    → length (concatMap wordsOf rows) ≡ rowWords * length rows
 length-rows [] h = refl
-length-rows (row ∷ rows) h = rw length-append (omega (arith, h 0 (omega arith), length-rows rows (λ q l. h (suc q) (omega arith))))
+length-rows (row ∷ rows) h = rw length-append
+    (omega (arith, h 0 (omega arith), length-rows rows (λ q l. h (suc q) (omega arith))))
 
 module _ (p : Program) (whole : (q : ℕ) → q < rowCount p → Whole (rowAt (p .rows) q)) where
   -- Code has 12(n+1) words.
@@ -120,7 +126,8 @@ module _ (p : Program) (whole : (q : ℕ) → q < rowCount p → Whole (rowAt (p
           before = header ++ c .before;
           after = c .after ++ rest;
           parts = ap (λ l. header ++ (l ++ rest)) (c .parts)
-              ∙ ap (λ l. header ++ l) (append-assoc (c .before) (words ++ c .after) rest ∙ ap (λ l. c .before ++ l) (append-assoc words (c .after) rest));
+              ∙ ap (λ l. header ++ l) (append-assoc (c .before) (words ++ c .after) rest
+              ∙ ap (λ l. c .before ++ l) (append-assoc words (c .after) rest));
           long = omega (arith, c .long);
         }
 
@@ -146,18 +153,21 @@ module _ (p : Program) (whole : (q : ℕ) → q < rowCount p → Whole (rowAt (p
         let n : ℕ = rowCount p in
         let rows : rowsIn code n 0 ≡ p .rows
         = ext-getD accept (rowsIn code n 0) (p .rows) (rowsIn-length code n 0)
-        (λ j h. let l : j < n = omega (arith, rowsIn-length code n 0) in rowsIn-at code n 0 j l ∙ ap (rowIn code) (omega arith) ∙ row-back j l) in
+        (λ j h. let l : j < n = omega (arith, rowsIn-length code n 0) in
+        rowsIn-at code n 0 j l ∙ ap (rowIn code) (omega arith) ∙ row-back j l) in
         λ i. record { groups = p .groups; rows = rows i }
 
     -- It passes the check if its rows do and its numbers are within the limits.
-    pub code-passes : rowsPass p ≡ true → leastRows ≤ rowCount p → rowCount p ≤ rowLimit → p .groups ≤ groupLimit → codePasses code ≡ true
+    pub code-passes : rowsPass p ≡ true → leastRows ≤ rowCount p → rowCount p ≤ rowLimit → p .groups ≤ groupLimit
+        → codePasses code ≡ true
     unfolding codePasses codeOf
     code-passes pass low high few =
         let n : ℕ = rowCount p in
         let long : codeWords n ≤ length code = omega (arith, length-append (codeOf p) rest, code-length) in
         let header : headerPasses n (p .groups) ≡ true
         = rw (le-leb leastRows n low, le-leb n rowLimit high, le-leb (p .groups) groupLimit few) in
-        and-all (leb (codeWords n) (length code)) (headerPasses n (p .groups)) (below n (λ q. between 1 10 (wordAt code (rowStart q)))) (rowsPass (decode code))
+        and-all (leb (codeWords n) (length code)) (headerPasses n (p .groups))
+        (below n (λ q. between 1 10 (wordAt code (rowStart q)))) (rowsPass (decode code))
         (le-leb (codeWords n) (length code) long) header (below-all n _ kind-back) (ap rowsPass code-says ∙ pass)
 
 -- Each row of a pattern's program is 12 words.

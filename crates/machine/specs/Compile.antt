@@ -8,13 +8,15 @@ use native.Mathlib.Omega.{arith}
 use Rattle.meaning.specs.Tests.{lt-of, ahead, here, flags}
 use Rattle.meaning.specs.Text.{Input, Regs, State, size, fits, holdsAt, fits-within}
 use Rattle.meaning.specs.Node.{Node, Node.many}
-use Rattle.meaning.specs.Results.{orElse, firstSome, choose, later, moved, enter, leave, fresh, forced, turns, results, orElse-none, first-append, first-concatMap, first-cond, first-stop, first-turns}
+use Rattle.meaning.specs.Results.{orElse, firstSome, choose, later, moved, enter, leave, fresh, forced, turns, results}
+use Rattle.meaning.specs.Results.{orElse-none, first-append, first-concatMap, first-cond, first-stop, first-turns}
 use Rattle.meaning.specs.Reach.{reach, body-reach, enough}
 use Rattle.machine.specs.Steps.{Move, Move.lose, Move.eat, Move.on, Move.both, act, moveOf}
 use Rattle.machine.specs.Trees.{Tree, Tree.lost, Tree.ate, Tree.went, Tree.split, first}
 use Rattle.machine.specs.Rows.{Row, rowAt, at}
 use Rattle.machine.specs.Layout.{forkOf}
-use Rattle.machine.specs.Laid.{Turn, Laid, Laid.nothing, Laid.one, Laid.test, Laid.inside, Laid.chain, Laid.either, Laid.must, Laid.stop, Laid.may, Laid.loop}
+use Rattle.machine.specs.Laid.{Turn, Laid, Laid.nothing, Laid.one, Laid.test, Laid.inside, Laid.chain, Laid.either}
+use Rattle.machine.specs.Laid.{Laid.must, Laid.stop, Laid.may, Laid.loop}
 
 module _ (w : Input) (code : List Row) where
   -- A tree of the moves from m, in which the first thread that wins has the registers o.
@@ -36,7 +38,8 @@ module _ (w : Input) (code : List Row) where
       → Run (x .pos) q b (x .regs) (firstSome c (results w r x))
 
   -- One move of each kind.
-  from : {i q : ℕ} {b : Bool} {ρ : Regs} {o : Option Regs} {row : Row} → rowAt code q ≡ row → Runs i (act w i q b row) ρ o → Run i q b ρ o
+  from : {i q : ℕ} {b : Bool} {ρ : Regs} {o : Option Regs} {row : Row} → rowAt code q ≡ row → Runs i (act w i q b row) ρ o
+      → Run i q b ρ o
   from e t = record { runs = rw e t }
 
   step : {i q : ℕ} {b : Bool} {f : Regs → Regs} {ρ : Regs} {o : Option Regs} → Run i q b (f ρ) o → Runs i (on f (at q b)) ρ o
@@ -47,20 +50,24 @@ module _ (w : Input) (code : List Row) where
   unfolding first
   read t = record { tree = ate (t .runs .tree); wins = t .runs .wins }
 
-  fork : {i q k : ℕ} {b : Bool} {ρ : Regs} {o o′ : Option Regs} → Run i q b ρ o → Run i k b ρ o′ → Runs i (both (at q b) (at k b)) ρ (orElse o o′)
+  fork : {i q k : ℕ} {b : Bool} {ρ : Regs} {o o′ : Option Regs} → Run i q b ρ o → Run i k b ρ o′
+      → Runs i (both (at q b) (at k b)) ρ (orElse o o′)
   unfolding first
   fork t u = record { tree = split (t .runs .tree) (u .runs .tree); wins = rw (t .runs .wins, u .runs .wins) }
 
-  guard : {i : ℕ} {m : Move} {ρ : Regs} {o : Option Regs} (g : Bool) → (g ≡ true → Runs i m ρ o) → Runs i (cond g m lose) ρ (cond g o none)
+  guard : {i : ℕ} {m : Move} {ρ : Regs} {o : Option Regs} (g : Bool) → (g ≡ true → Runs i m ρ o)
+      → Runs i (cond g m lose) ρ (cond g o none)
   unfolding first
   guard true f = f refl
   guard false f = record { tree = lost; wins = refl }
 
   -- What follows a part follows its end, and what follows two parts follows the second.
-  last : {k : ℕ} (b : Bool) (x : State) {c : State → Option Regs} → x .pos ≤ size w → Follows k b x c → Run (x .pos) k b (x .regs) (c x)
+  last : {k : ℕ} (b : Bool) (x : State) {c : State → Option Regs} → x .pos ≤ size w → Follows k b x c
+      → Run (x .pos) k b (x .regs) (c x)
   last b x hx h = rw (here b (x .pos) (x .pos) (omega arith)) at (h x (omega arith) hx)
 
-  next : {k : ℕ} (b : Bool) (x y : State) {c : State → Option Regs} → x .pos ≤ y .pos → Follows k b x c → Follows k (b || later x y) y c
+  next : {k : ℕ} (b : Bool) (x y : State) {c : State → Option Regs} → x .pos ≤ y .pos → Follows k b x c
+      → Follows k (b || later x y) y c
   next b x y le h z h₁ h₂ = rw (flags b (x .pos) (y .pos) (z .pos)) (h z (omega arith) h₂)
 
   after : {k : ℕ} (b : Bool) (x y : State) {c : State → Option Regs} → x .pos < y .pos → Follows k b x c → Follows k true y c
@@ -76,9 +83,11 @@ module _ (w : Input) (code : List Row) where
       → Turn code lazy r q k m back → Does r (suc (suc (suc q))) m
       → (b : Bool) (x : State) (c d : State → Option Regs) → x .pos ≤ size w → Follows k b x c
       → ((y : State) → x .pos < y .pos → y .pos ≤ size w → Run (y .pos) back true (y .regs) (d y))
-      → Run (x .pos) q b (x .regs) (choose orElse lazy (firstSome (λ y. cond (later x y) (d y) none) (results w r (fresh r x))) (c x))
+      → Run (x .pos) q b (x .regs) (choose orElse lazy (firstSome (λ y. cond (later x y) (d y) none) (results w r (fresh r x)))
+      (c x))
   turn {lazy} {r} {m = m} s body b x c d hx h h′ =
-      branch lazy (s .forks) (from (s .begins) (step (from (s .resets) (step (body false (fresh r x) (λ y. cond (later x y) (d y) none) hx ends))))) (last b x hx h)
+      branch lazy (s .forks) (from (s .begins) (step
+      (from (s .resets) (step (body false (fresh r x) (λ y. cond (later x y) (d y) none) hx ends))))) (last b x hx h)
     where
       ends : Follows m false (fresh r x) (λ y. cond (later x y) (d y) none)
       ends y h₁ h₂ = from (s .ends) (guard (later x y) (λ t. step (rw t (h′ y (lt-of (x .pos) (y .pos) t) h₂))))
@@ -103,7 +112,8 @@ module _ (w : Input) (code : List Row) where
   compile (one {s = s} e) b x c hx h =
       rw (first-cond, orElse-none) (from e (guard (fits w s (x .pos)) (λ t.
       read (rw (ahead b (x .pos) (suc (x .pos)) (omega arith)) at (h (moved x) (omega arith) (fits-within w s (x .pos) t))))))
-  compile (test {a = a} e) b x c hx h = rw (first-cond, orElse-none) (from e (guard (holdsAt w a (x .pos)) (λ t. step (last b x hx h))))
+  compile (test {a = a} e) b x c hx h = rw (first-cond, orElse-none)
+      (from e (guard (holdsAt w a (x .pos)) (λ t. step (last b x hx h))))
   compile (inside {n = n} e l e′) b x c hx h =
       simp (first-concatMap, orElse-none) (from e (step (compile l b (enter n x) (λ y. c (leave n y)) hx
       (λ y h₁ h₂. from e′ (step (h (leave n y) h₁ h₂))))))

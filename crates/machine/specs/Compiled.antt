@@ -14,11 +14,13 @@ use Rattle.sets.specs.Bits.{below-all}
 use Rattle.sets.specs.Laws.{setOf-holds}
 use Rattle.meaning.specs.Node.{Node, Node.bset, Node.group, Node.many, lo, hi, Proper}
 use Rattle.meaning.specs.Numbering.{Numbers, Range, range, forwards}
-use Rattle.machine.specs.Rows.{Row, Row.accept, Row.consume, Row.jump, Row.fork, Row.opens, Row.closes, Row.reset, Row.begin, Row.end, Row.assertion}
+use Rattle.machine.specs.Rows.{Row, Row.accept, Row.consume, Row.jump, Row.fork, Row.opens, Row.closes, Row.reset}
+use Rattle.machine.specs.Rows.{Row.begin, Row.end, Row.assertion}
 use Rattle.machine.specs.Rows.{Program, rowCount, rowAt}
 use Rattle.machine.specs.Steps.{matchRow}
 use Rattle.machine.specs.Layout.{forkOf, anyByte, programOf}
-use Rattle.machine.specs.Laid.{Turn, Laid, Laid.nothing, Laid.one, Laid.test, Laid.inside, Laid.chain, Laid.either, Laid.must, Laid.stop, Laid.may, Laid.loop}
+use Rattle.machine.specs.Laid.{Turn, Laid, Laid.nothing, Laid.one, Laid.test, Laid.inside, Laid.chain, Laid.either}
+use Rattle.machine.specs.Laid.{Laid.must, Laid.stop, Laid.may, Laid.loop}
 use Rattle.machine.specs.Laid.{grows, Stand, program-stands}
 use Rattle.machine.specs.Words.{rowPasses, mayBeLast, eachPasses, lastPasses, rowsPass}
 
@@ -68,7 +70,8 @@ module _ (rows : List Row) (n g : ℕ) (P : Row → Type 0) (rules : Rules n g P
       → Pass (suc (suc (suc q))) m → suc q < n → k < n → back < n → suc (suc (suc q)) ≤ m → Pass q (suc m)
   turn {lazy} {r} {q} {k} {m} {back} t clear s h h₁ h₂ le =
       let after : Pass m (suc m) = cons m (suc m) (t .ends) (rules .ends back h₂) (nil (suc m)) in
-      let body : Pass (suc (suc q)) (suc m) = cons (suc (suc q)) (suc m) (t .resets) clear (join (suc (suc (suc q))) m (suc m) s after) in
+      let body : Pass (suc (suc q)) (suc m) = cons (suc (suc q)) (suc m) (t .resets) clear
+      (join (suc (suc (suc q))) m (suc m) s after) in
       cons q (suc m) (t .forks) (either-fork lazy q k h h₁) (cons (suc q) (suc m) (t .begins) (rules .begins) body)
 
   -- The rows that are laid for a pattern pass, with groups from a up to b and the rows after them in the program.
@@ -81,7 +84,8 @@ module _ (rows : List Row) (n g : ℕ) (P : Row → Type 0) (rules : Rules n g P
       let d : suc q ≤ m = grows l in
       let least : k ≤ g = omega (arith, num .0, forwards r (suc a) b (omega arith) (num .1)) in
       let body : Pass (suc q) m = laid-pass l (suc a) b (omega arith) top (num .1) ok (omega arith) in
-      cons q (suc m) e (rules .groups k least .0) (join (suc q) m (suc m) body (cons m (suc m) e′ (rules .groups k least .1) (nil (suc m))))
+      cons q (suc m) e (rules .groups k least .0)
+      (join (suc q) m (suc m) body (cons m (suc m) e′ (rules .groups k least .1) (nil (suc m))))
   laid-pass (chain {r = r} {s = s} {q = q} {m = m} {k = k} l l′) a b pos top num ok h =
       let d : m ≤ k = grows l′ in
       let f : a ≤ num .0 = forwards r a (num .0) pos (num .1) in
@@ -106,11 +110,13 @@ module _ (rows : List Row) (n g : ℕ) (P : Row → Type 0) (rules : Rules n g P
       let d : suc (suc (suc q)) ≤ m = grows l in
       let d′ : suc m ≤ k = grows l′ in
       join q (suc m) k
-      (turn t (clears a b (lo r) (hi r) pos top (range r a b pos num)) (laid-pass l a b pos top num ok (omega arith)) (omega arith) h (omega arith) d)
+      (turn t (clears a b (lo r) (hi r) pos top (range r a b pos num)) (laid-pass l a b pos top num ok (omega arith))
+      (omega arith) h (omega arith) d)
       (laid-pass l′ a b pos top num ok h)
   laid-pass (loop {r = r} {q = q} {m = m} t l) a b pos top num ok h =
       let d : suc (suc (suc q)) ≤ m = grows l in
-      turn t (clears a b (lo r) (hi r) pos top (range r a b pos num)) (laid-pass l a b pos top num ok (omega arith)) (omega arith) h (omega arith) d
+      turn t (clears a b (lo r) (hi r) pos top (range r a b pos num)) (laid-pass l a b pos top num ok (omega arith))
+      (omega arith) h (omega arith) d
 
   -- So do those of a pattern as group 0.
   whole-pass : {r : Node} {q k : ℕ} → Laid rows (group 0 r) q k → Numbers 1 r (suc g) → Proper r → k < n → Pass q k
@@ -132,11 +138,13 @@ every-row g r num ok P rules q h =
     let d : suc k ≡ n = s .ends in
     let d₅ : matchRow ≤ k = grows (s .pattern) in
     let prefix : Pass rows n g P rules 0 matchRow
-    = laid-pass rows n g P rules (s .prefix) 1 1 (omega arith) (omega arith) refl (setOf-holds (λ b. true) .formed) (omega arith) in
+    = laid-pass rows n g P rules (s .prefix) 1 1 (omega arith) (omega arith) refl (setOf-holds (λ b. true) .formed)
+    (omega arith) in
     let pattern : Pass rows n g P rules matchRow k = whole-pass rows n g P rules (s .pattern) num ok (omega arith) in
     let last : Pass rows n g P rules k (suc k)
     = cons rows n g P rules k (suc k) (s .accepts) (rules .accepts) (nil rows n g P rules (suc k)) in
-    join rows n g P rules 0 matchRow (suc k) prefix (join rows n g P rules matchRow k (suc k) pattern last) q (omega arith) (omega arith)
+    join rows n g P rules 0 matchRow (suc k) prefix (join rows n g P rules matchRow k (suc k) pattern last) q (omega arith)
+    (omega arith)
 
 either-way : (x y : Bool) → (x ≡ true) ⊎ (y ≡ true) → (x || y) ≡ true
 either-way true y h = refl
@@ -170,5 +178,6 @@ compiled-passes g r num ok =
     let n : ℕ = rowCount (programOf g r) in
     let s : Stand g r = program-stands g r in
     let k : n - 1 ≡ s .last = omega (arith, s .ends) in
-    let last : lastPasses (programOf g r) ≡ true = ap (λ q. mayBeLast (rowAt (programOf g r .rows) q)) k ∙ ap mayBeLast (s .accepts) in
+    let last : lastPasses (programOf g r) ≡ true = ap (λ q. mayBeLast (rowAt (programOf g r .rows) q)) k
+    ∙ ap mayBeLast (s .accepts) in
     rw (below-all n _ (every-row g r num ok (λ row. rowPasses n g row ≡ true) (pass-rules n g))) last

@@ -34,11 +34,13 @@ sized = (refl, refl)
 
 -- Empty pattern and text: 0,0; 3 rows executed matched, 4 searched.
 empty-matched : (best (run (textOf []) (programOf 0 empty) 0 matchRow) ≡ some (some 0 ∷ some 0 ∷ []))
-    × (count (run (textOf []) (programOf 0 empty) 0 matchRow) ≡ 3) × (count (run (textOf []) (programOf 0 empty) 0 searchRow) ≡ 4)
+    × (count (run (textOf []) (programOf 0 empty) 0 matchRow) ≡ 3) ×
+    (count (run (textOf []) (programOf 0 empty) 0 searchRow) ≡ 4)
 unfolding run steps rowsOf unset fits opened closed cleared wiped
 empty-matched = (refl, refl, refl)
 
 -- `a` searched in "b": none, 13.
-a-in-b : (best (run (textOf (98 ∷ [])) (programOf 0 letterA) 0 searchRow) ≡ none) × (count (run (textOf (98 ∷ [])) (programOf 0 letterA) 0 searchRow) ≡ 13)
+a-in-b : (best (run (textOf (98 ∷ [])) (programOf 0 letterA) 0 searchRow) ≡ none) ×
+    (count (run (textOf (98 ∷ [])) (programOf 0 letterA) 0 searchRow) ≡ 13)
 unfolding run steps rowsOf unset fits opened closed cleared wiped anyByte setOf wordOf has bit
 a-in-b = (refl, refl)

@@ -9,11 +9,13 @@ use native.Mathlib.Omega.{arith}
 use lib.ListN.{length, length-append}
 use lib.Seq.{getD-append-seam}
 use Rattle.meaning.specs.Node.{Node, Node.empty, Node.bset, Node.assert, Node.group, Node.seq, Node.alt, Node.many, lo, hi}
-use Rattle.machine.specs.Rows.{Row, Row.accept, Row.consume, Row.jump, Row.fork, Row.opens, Row.closes, Row.reset, Row.begin, Row.end, Row.assertion}
+use Rattle.machine.specs.Rows.{Row, Row.accept, Row.consume, Row.jump, Row.fork, Row.opens, Row.closes, Row.reset}
+use Rattle.machine.specs.Rows.{Row.begin, Row.end, Row.assertion}
 use Rattle.meaning.specs.Limits.{leastRows}
 use Rattle.machine.specs.Rows.{rowAt}
 use Rattle.machine.specs.Steps.{matchRow}
-use Rattle.machine.specs.Layout.{sizeOf, forkOf, times, pastTurn, pastTurns, past, copies, turnRows, turnsRows, rowsOf, anyByte, whole, programOf}
+use Rattle.machine.specs.Layout.{sizeOf, forkOf, times, pastTurn, pastTurns, past, copies, turnRows, turnsRows, rowsOf}
+use Rattle.machine.specs.Layout.{anyByte, whole, programOf}
 
 -- The rows around the body of a turn that can be left out: from row q in, after row m on to row `back`, or from q out to row k.
 pub record Turn (code : List Row) (lazy : Bool) (r : Node) (q k m back : ℕ) : Type 0 where
@@ -27,7 +29,8 @@ pub data Laid (code : List Row) : Node → ℕ → ℕ → Type 0 where
   nothing : {q : ℕ} → Laid code empty q q
   one : {s : List ℕ} {q : ℕ} → rowAt code q ≡ consume s → Laid code (bset s) q (suc q)
   test : {a q : ℕ} → rowAt code q ≡ assertion a → Laid code (assert a) q (suc q)
-  inside : {n : ℕ} {r : Node} {q m : ℕ} → rowAt code q ≡ opens n → Laid code r (suc q) m → rowAt code m ≡ closes n → Laid code (group n r) q (suc m)
+  inside : {n : ℕ} {r : Node} {q m : ℕ} → rowAt code q ≡ opens n → Laid code r (suc q) m → rowAt code m ≡ closes n
+      → Laid code (group n r) q (suc m)
   chain : {r s : Node} {q m k : ℕ} → Laid code r q m → Laid code s m k → Laid code (seq r s) q k
   either : {r s : Node} {q m k : ℕ}
       → rowAt code q ≡ fork (suc q) (suc m) → Laid code r (suc q) m → rowAt code m ≡ jump k → Laid code s (suc m) k
@@ -75,13 +78,15 @@ module _ (code : List Row) where
 
     -- A turn that can be left out, and what stands after it.
     turn : (out back q k : ℕ) (rest : List Row) → Stands (turnRows lazy clear (rowsOf r) out back q ++ rest) q k
-        → let b : ℕ = suc (suc (suc q)) in Turn code lazy r q out (past r b) back × Laid code r b (past r b) × Stands rest (suc (past r b)) k
+        → let b : ℕ = suc (suc (suc q)) in Turn code lazy r q out (past r b) back × Laid code r b (past r b) × Stands rest
+        (suc (past r b)) k
     turn out back q k rest h =
         let b : ℕ = suc (suc (suc q)) in
         let (l, s) = body b k (end back ∷ rest) (regroup (rowsOf r b) (end back ∷ []) rest b k (h .1 .1 .1)) in
         (record { forks = h .0; begins = h .1 .0; resets = h .1 .1 .0; ends = s .0 }, l, s .1)
 
-    bounded : (n : ℕ) → Sound (turnsRows lazy clear (rowsOf r) (past r) (some n)) (many 0 (some n) lazy r) (times (pastTurn (past r)) n)
+    bounded : (n : ℕ) → Sound (turnsRows lazy clear (rowsOf r) (past r) (some n)) (many 0 (some n) lazy r)
+        (times (pastTurn (past r)) n)
     bounded zero q k rest h = (stop, h)
     bounded (suc n) q k rest h =
         let f : ℕ → ℕ = pastTurn (past r) in
@@ -97,7 +102,8 @@ module _ (code : List Row) where
     options (some n) q k rest h = bounded n q k rest h
 
     repeats : (n : ℕ) (e : Option ℕ)
-        → Sound (λ q. copies (λ p. clear ∷ rowsOf r (suc p)) (λ p. past r (suc p)) n q ++ turnsRows lazy clear (rowsOf r) (past r) e (times (λ p. past r (suc p)) n q))
+        → Sound (λ q. copies (λ p. clear ∷ rowsOf r (suc p)) (λ p. past r (suc p)) n q ++ turnsRows lazy clear (rowsOf r)
+        (past r) e (times (λ p. past r (suc p)) n q))
         (many n e lazy r) (λ q. pastTurns (past r) e (times (λ p. past r (suc p)) n q))
     repeats zero e q k rest h = options e q k rest h
     repeats (suc n) e q k rest h =
@@ -106,7 +112,8 @@ module _ (code : List Row) where
         let more : List Row = copies rows f n (f q) in
         let last : List Row = turnsRows lazy clear (rowsOf r) (past r) e (times f n (f q)) in
         let h′ : Stands (rows q ++ (more ++ last ++ rest)) q k
-        = regroup (rows q) (more ++ last) rest q k (subst (λ (l : List Row). Stands (l ++ rest) q k) (append-assoc (rows q) more last) h) in
+        = regroup (rows q) (more ++ last) rest q k
+        (subst (λ (l : List Row). Stands (l ++ rest) q k) (append-assoc (rows q) more last) h) in
         let (l, s) = body (suc q) k (more ++ last ++ rest) (h′ .1) in
         let (l′, s′) = repeats n e (f q) k rest s in
         (must (h′ .0) l l′, s′)
@@ -137,7 +144,8 @@ pub stands : (before rows : List Row) (q k : ℕ) → length before ≡ q → q 
 stands before [] q k e e′ = omega arith
 stands before (row ∷ rows) q k e e′ = (
   subst (λ (z : ℕ). rowAt (before ++ row ∷ rows) z ≡ row) e (getD-append-seam before row rows accept),
-  subst (λ (l : List Row). Stands l rows (suc q) k) (append-assoc before (row ∷ []) rows) (stands (before ++ (row ∷ [])) rows (suc q) k (rw length-append (omega arith)) (omega arith)),
+  subst (λ (l : List Row). Stands l rows (suc q) k) (append-assoc before (row ∷ []) rows)
+      (stands (before ++ (row ∷ [])) rows (suc q) k (rw length-append (omega arith)) (omega arith)),
 )
 
 times-add : (f : ℕ → ℕ) (d : ℕ) → ((q : ℕ) → f q ≡ q + d) → (n q : ℕ) → times f n q ≡ q + n * d
@@ -155,11 +163,13 @@ past-sizeOf (seq r s) q = omega (arith, past-sizeOf r q, past-sizeOf s (past r q
 past-sizeOf (alt r s) q = omega (arith, past-sizeOf r (suc q), past-sizeOf s (suc (past r (suc q))))
 past-sizeOf (many n none lazy r) q =
     let m : ℕ = times (λ p. past r (suc p)) n q in
-    let e₁ : m ≡ q + n * (sizeOf r + 1) = times-add (λ p. past r (suc p)) (sizeOf r + 1) (λ p. omega (arith, past-sizeOf r (suc p))) n q in
+    let e₁ : m ≡ q + n * (sizeOf r + 1) = times-add (λ p. past r (suc p)) (sizeOf r + 1)
+    (λ p. omega (arith, past-sizeOf r (suc p))) n q in
     omega (arith, past-sizeOf r (suc (suc (suc m))))
 past-sizeOf (many n (some k) lazy r) q =
     let m : ℕ = times (λ p. past r (suc p)) n q in
-    let e₁ : m ≡ q + n * (sizeOf r + 1) = times-add (λ p. past r (suc p)) (sizeOf r + 1) (λ p. omega (arith, past-sizeOf r (suc p))) n q in
+    let e₁ : m ≡ q + n * (sizeOf r + 1) = times-add (λ p. past r (suc p)) (sizeOf r + 1)
+    (λ p. omega (arith, past-sizeOf r (suc p))) n q in
     let e₂ : times (pastTurn (past r)) k m ≡ m + k * (sizeOf r + 4)
     = times-add (pastTurn (past r)) (sizeOf r + 4) (λ p. omega (arith, past-sizeOf r (suc (suc (suc p))))) k m in
     omega arith

@@ -5,7 +5,8 @@ use mathlib.Core.List.{List, [], _∷_, _++_}
 use Prim.Native.Nat.{ℕ, zero, suc, _+_, _*_}
 use Rattle.sets.specs.Sets.{setOf}
 use Rattle.meaning.specs.Node.{Node, Node.empty, Node.bset, Node.assert, Node.group, Node.seq, Node.alt, Node.many, lo, hi}
-use Rattle.machine.specs.Rows.{Row, Row.accept, Row.consume, Row.jump, Row.fork, Row.opens, Row.closes, Row.reset, Row.begin, Row.end, Row.assertion}
+use Rattle.machine.specs.Rows.{Row, Row.accept, Row.consume, Row.jump, Row.fork, Row.opens, Row.closes, Row.reset}
+use Rattle.machine.specs.Rows.{Row.begin, Row.end, Row.assertion}
 use Rattle.machine.specs.Rows.{Program}
 
 -- The number of rows of a pattern.
@@ -60,7 +61,8 @@ turnRows lazy clear rows k back q = forkOf lazy q k ∷ begin ∷ clear ∷ (row
 -- The turns that can be left out.
 abbrev pub turnsRows : Bool → Row → (ℕ → List Row) → (ℕ → ℕ) → Option ℕ → ℕ → List Row
 turnsRows lazy clear rows f none q = turnRows lazy clear rows (pastTurn f q) q q
-turnsRows lazy clear rows f (some n) q = copies (λ p. turnRows lazy clear rows (times (pastTurn f) n q) (pastTurn f p) p) (pastTurn f) n q
+turnsRows lazy clear rows f (some n) q = copies (λ p. turnRows lazy clear rows (times (pastTurn f) n q) (pastTurn f p) p)
+    (pastTurn f) n q
 
 -- The rows of a pattern, from row q on.
 unfoldable pub rowsOf : Node → ℕ → List Row
@@ -69,10 +71,12 @@ rowsOf (bset s) q = consume s ∷ []
 rowsOf (assert a) q = assertion a ∷ []
 rowsOf (group n r) q = opens n ∷ (rowsOf r (suc q) ++ (closes n ∷ []))
 rowsOf (seq r s) q = rowsOf r q ++ rowsOf s (past r q)
-rowsOf (alt r s) q = fork (suc q) (suc (past r (suc q))) ∷ (rowsOf r (suc q) ++ (jump (past s (suc (past r (suc q)))) ∷ rowsOf s (suc (past r (suc q)))))
+rowsOf (alt r s) q = fork (suc q) (suc (past r (suc q))) ∷
+    (rowsOf r (suc q) ++ (jump (past s (suc (past r (suc q)))) ∷ rowsOf s (suc (past r (suc q)))))
 rowsOf (many n e lazy r) q =
     let clear : Row = reset (lo r) (hi r) in
-    copies (λ p. clear ∷ rowsOf r (suc p)) (λ p. past r (suc p)) n q ++ turnsRows lazy clear (rowsOf r) (past r) e (times (λ p. past r (suc p)) n q)
+    copies (λ p. clear ∷ rowsOf r (suc p)) (λ p. past r (suc p)) n q ++ turnsRows lazy clear (rowsOf r) (past r) e
+    (times (λ p. past r (suc p)) n q)
 
 -- The set of all bytes.
 unfoldable pub anyByte : List ℕ

@@ -1,4 +1,5 @@
--- For any code that passes the check, not only for compiled code: the steps end, keep within the bound, and need no more than their room.
+-- For any code that passes the check, not only for compiled code: the steps end, keep within the bound, and need no more than
+-- their room.
 use mathlib.Core.Path.{_≡_, refl, sym, ap, subst, _∙_}
 use mathlib.Core.Logic.{_⊎_, inl, inr}
 use mathlib.Core.Bool.{Bool, true, false, cond, _||_, _&&_, false≢true}
@@ -16,9 +17,11 @@ use Rattle.sets.specs.Bits.{below-at}
 use Rattle.meaning.specs.Tests.{and-true, by-test}
 use Rattle.meaning.specs.Text.{Input, Regs, size, fits, holdsAt, fits-within}
 use Rattle.meaning.specs.Reach.{All}
-use Rattle.machine.specs.Rows.{Row, Row.accept, Row.consume, Row.jump, Row.fork, Row.opens, Row.closes, Row.reset, Row.begin, Row.end, Row.assertion}
+use Rattle.machine.specs.Rows.{Row, Row.accept, Row.consume, Row.jump, Row.fork, Row.opens, Row.closes, Row.reset}
+use Rattle.machine.specs.Rows.{Row.begin, Row.end, Row.assertion}
 use Rattle.machine.specs.Rows.{Program, rowCount, rowAt, Key, at}
-use Rattle.machine.specs.Steps.{Move.lose, Move.on, act, moveOf, Thread, Machine, steps, begun, Done, count, enough, firstThread, run}
+use Rattle.machine.specs.Steps.{Move.lose, Move.on, act, moveOf, Thread, Machine, steps, begun, Done, count, enough}
+use Rattle.machine.specs.Steps.{firstThread, run}
 use Rattle.machine.specs.Words.{rowPasses, mayBeLast, eachPasses, lastPasses, rowsPass}
 use Rattle.machine.specs.Bound.{Inside, Bound, Room, room, counts, begins, left-begun, after, stays, ends}
 
@@ -66,7 +69,8 @@ module _ (p : Program) (pass : rowsPass p ≡ true) where
     leads i k h = acts i (k .row) (k .flag) (rowAt (p .rows) (k .row)) (row-passes (k .row) h) (not-last (k .row) h)
 
     -- A machine that begins with threads at rows of the program, no more than 2n: what holds after any number of steps.
-    module _ (i : ℕ) (ts : List Thread) (here : All (λ t. t .key .row < n) ts) (few : length ts ≤ n + n) (within : i ≤ size w) where
+    module _ (i : ℕ) (ts : List Thread) (here : All (λ t. t .key .row < n) ts) (few : length ts ≤ n + n)
+        (within : i ≤ size w) where
       abbrev after-steps : ℕ → Machine
       after-steps m = steps (moveOf w (p .rows)) m (begun i ts)
 
@@ -88,7 +92,8 @@ module _ (p : Program) (pass : rowsPass p ≡ true) where
           same = let a : n + n ≡ 2 * n = omega arith in let b : suc (size w - i) ≡ size w - i + 1 = omega arith in rw (a, b)
 
       -- The steps end.
-      pub halts : (m : ℕ) → (size w - i) * suc (n + n + (n + n) + (n + n)) + (n + n + (n + n)) + length ts ≤ m → Done (after-steps m)
+      pub halts : (m : ℕ) → (size w - i) * suc (n + n + (n + n) + (n + n)) + (n + n + (n + n)) + length ts ≤ m
+          → Done (after-steps m)
       halts m h = ends n (size w) i (n + n) (moveOf w (p .rows)) leads m (begun i ts)
           (begins n (size w) i (n + n) ts here few (omega arith) within) (omega (arith, left-begun n (size w) i (n + n) ts))
 

@@ -18,8 +18,8 @@ pub data Reply : Type 0 where
   missing : ℕ → Reply
   refused : ℕ → Reply
 
--- The number by which a run is turned away, the first in order that holds; 0 if it is not: 20 code fails its check; 21 text over the
--- limit; 22 start beyond the text's length; 23 fewer registers, and 24 fewer workspace words, than it needs.
+-- The number by which a run is turned away, the first in order that holds; 0 if it is not: 20 code fails its check; 21 text
+-- over the limit; 22 start beyond the text's length; 23 fewer registers, and 24 fewer workspace words, than it needs.
 unfoldable pub refusal : List ℕ → List ℕ → ℕ → ℕ → ℕ → ℕ
 refusal code text start registers workspace =
     cond (codePasses code)

@@ -6,8 +6,9 @@ use mathlib.Core.List.{List}
 use Prim.Native.Nat.{ℕ, suc}
 use lib.ListN.{length, getD}
 
--- A row, by the outline's ten kinds: 1 Accept, 2 Consume a byte of a set, 3 Jump to a row, 4 Fork to two, the first choice first,
--- 5 Open and 6 Close a group, 7 Reset the groups from the lowest to the highest, 8 Begin a turn, 9 End it and go to a row, 10 Assert.
+-- A row, by the outline's ten kinds: 1 Accept, 2 Consume a byte of a set, 3 Jump to a row, 4 Fork to two, the first choice
+-- first, 5 Open and 6 Close a group, 7 Reset the groups from the lowest to the highest, 8 Begin a turn, 9 End it and go to a
+-- row, 10 Assert.
 pub data Row : Type 0 where
   accept : Row
   consume : List ℕ → Row

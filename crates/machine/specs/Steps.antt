@@ -6,11 +6,12 @@ use Prim.Native.Nat.{ℕ, zero, suc, _+_, _*_, _-_}
 use lib.Dec.{eqb}
 use lib.ListN.{length}
 use Rattle.meaning.specs.Text.{Input, Regs, size, unset, fits, holdsAt, opened, closed, cleared}
-use Rattle.machine.specs.Rows.{Row, Row.accept, Row.consume, Row.jump, Row.fork, Row.opens, Row.closes, Row.reset, Row.begin, Row.end, Row.assertion}
+use Rattle.machine.specs.Rows.{Row, Row.accept, Row.consume, Row.jump, Row.fork, Row.opens, Row.closes, Row.reset}
+use Rattle.machine.specs.Rows.{Row.begin, Row.end, Row.assertion}
 use Rattle.machine.specs.Rows.{Program, rowAt, Key, at}
 
--- What a thread does: it wins; it is dropped; it is queued for the next position; it goes on with other registers; it goes two ways,
--- the first choice first.
+-- What a thread does: it wins; it is dropped; it is queued for the next position; it goes on with other registers; it goes two
+-- ways, the first choice first.
 pub data Move : Type 0 where
   win : Move
   lose : Move
@@ -18,9 +19,9 @@ pub data Move : Type 0 where
   on : (Regs → Regs) → Key → Move
   both : Key → Key → Move
 
--- What executing a row does at position i, for a thread at row q with flag b:
--- Accept wins; a Consume that fits queues the next row with the flag set; Jump and Fork go to their rows; Open and Close write the
--- position; Reset makes groups -1; Begin clears the flag; End goes on only if it is set; Assert goes on or drops.
+-- What executing a row does at position i, for a thread at row q with flag b: Accept wins; a Consume that fits queues the next
+-- row with the flag set; Jump and Fork go to their rows; Open and Close write the position; Reset makes groups -1; Begin clears
+-- the flag; End goes on only if it is set; Assert goes on or drops.
 abbrev pub act : Input → ℕ → ℕ → Bool → Row → Move
 act w i q b accept = win
 act w i q b (consume s) = cond (fits w s i) (eat (at (suc q) true)) lose
@@ -44,8 +45,8 @@ pub record Thread : Type 0 where
 abbrev pub thread : Key → Regs → Thread
 thread k ρ = record { key = k; regs = ρ }
 
--- A position; the active threads, in order; the queue for the next position; the keys executed at this position; the result recorded
--- last; and the count of rows executed.
+-- A position; the active threads, in order; the queue for the next position; the keys executed at this position; the result
+-- recorded last; and the count of rows executed.
 pub data Machine : Type 0 where
   machine : ℕ → List Thread → List Thread → List Key → Option Regs → ℕ → Machine
 
@@ -65,8 +66,8 @@ exec (eat k) ρ (machine i a q s b c) = machine i a (q ++ (thread k ρ ∷ [])) 
 exec (on f k) ρ (machine i a q s b c) = machine i (thread k (f ρ) ∷ a) q s b c
 exec (both k l) ρ (machine i a q s b c) = machine i (thread k ρ ∷ thread l ρ ∷ a) q s b c
 
--- A step. A thread whose row and flag were already executed at this position is dropped, uncounted; any other execution counts one.
--- When no thread is active the queue becomes active at the next position; an empty queue ends the run.
+-- A step. A thread whose row and flag were already executed at this position is dropped, uncounted; any other execution counts
+-- one. When no thread is active the queue becomes active at the next position; an empty queue ends the run.
 abbrev pub step : (ℕ → Key → Move) → Machine → Machine
 step move (machine i [] [] s b c) = machine i [] [] s b c
 step move (machine i [] (t ∷ q) s b c) = machine (suc i) (t ∷ q) [] [] b c

@@ -1,4 +1,5 @@
--- Code as words: the header row and rows of 12 words, what they say, and the check that stands before every run. Definitions only.
+-- Code as words: the header row and rows of 12 words, what they say, and the check that stands before every run. Definitions
+-- only.
 use mathlib.Core.Bool.{Bool, true, false, _||_, _&&_}
 use mathlib.Core.List.{List, [], _∷_, _++_}
 use Prim.Native.Nat.{ℕ, zero, suc, _+_, _*_, _-_}
@@ -7,7 +8,8 @@ use lib.ListN.{length, getD, take, drop, replicate}
 use Rattle.sets.specs.Sets.{below, between}
 use Rattle.meaning.specs.Results.{concatMap}
 use Rattle.meaning.specs.Limits.{groupLimit, rowLimit, leastRows, rowWords, codeWords}
-use Rattle.machine.specs.Rows.{Row, Row.accept, Row.consume, Row.jump, Row.fork, Row.opens, Row.closes, Row.reset, Row.begin, Row.end, Row.assertion}
+use Rattle.machine.specs.Rows.{Row, Row.accept, Row.consume, Row.jump, Row.fork, Row.opens, Row.closes, Row.reset}
+use Rattle.machine.specs.Rows.{Row.begin, Row.end, Row.assertion}
 use Rattle.machine.specs.Rows.{Program, rowCount, rowAt}
 
 -- The word at an address.
@@ -28,12 +30,14 @@ rowStart q = rowWords * (q + 1)
 -- A row from its kind, its two operands and its byte set. A kind that is not listed never passes the check.
 abbrev pub decodeRow : ℕ → ℕ → ℕ → List ℕ → Row
 decodeRow kind a b s =
-    getD (accept ∷ accept ∷ consume s ∷ jump a ∷ fork a b ∷ opens a ∷ closes a ∷ reset a b ∷ begin ∷ end a ∷ assertion a ∷ []) kind accept
+    getD (accept ∷ accept ∷ consume s ∷ jump a ∷ fork a b ∷ opens a ∷ closes a ∷ reset a b ∷ begin ∷ end a ∷ assertion a
+    ∷ []) kind accept
 
 -- Row q of code: kind, two operands, zero, byte set.
 unfoldable pub rowIn : List ℕ → ℕ → Row
 rowIn code q =
-    decodeRow (wordAt code (rowStart q)) (wordAt code (rowStart q + 1)) (wordAt code (rowStart q + 2)) (take 8 (drop (rowStart q + 4) code))
+    decodeRow (wordAt code (rowStart q)) (wordAt code (rowStart q + 1)) (wordAt code (rowStart q + 2))
+    (take 8 (drop (rowStart q + 4) code))
 
 -- n rows of code from row q on.
 abbrev pub rowsIn : List ℕ → ℕ → ℕ → List Row

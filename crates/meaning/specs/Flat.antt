@@ -1,4 +1,5 @@
--- The flat view of a pattern: a sequence is a list of items and an alternation a list of alternatives; one of a single part is that part.
+-- The flat view of a pattern: a sequence is a list of items and an alternation a list of alternatives; one of a single part is
+-- that part.
 use mathlib.Core.Path.{_≡_, refl, ap}
 use mathlib.Core.List.{List, [], _∷_}
 use Rattle.meaning.specs.Node.{Node, Node.empty, Node.bset, Node.assert, Node.group, Node.seq, Node.alt, Node.many}
@@ -63,7 +64,8 @@ Flat (alt r q) = Not alternation r × Flat r × Flat q
 Flat (many n e lazy r) = Flat r
 
 -- What holds of a list of parts, from what holds of one part and what a part more keeps.
-pub by-parts {ℓ} : (k : Kind) (P : Node → List Node → Type ℓ) → ((r : Node) → Not k r → P r (r ∷ [])) → ((r q : Node) (l : List Node) → P q l → P (pair k r q) (r ∷ l))
+pub by-parts {ℓ} : (k : Kind) (P : Node → List Node → Type ℓ) → ((r : Node) → Not k r → P r (r ∷ []))
+    → ((r q : Node) (l : List Node) → P q l → P (pair k r q) (r ∷ l))
     → (r : Node) → P r (parts k r)
 unfolding parts
 by-parts k P one more empty = one empty tt
@@ -78,7 +80,8 @@ by-parts k P one more (many n e lazy r) = one (many n e lazy r) tt
 
 -- The parts of a pattern make it up.
 parts-link : (k : Kind) (r s : Node) → link k s (parts k r) ≡ pair k s r
-parts-link k r s = by-parts k (λ r l. (s : Node) → link k s l ≡ pair k s r) (λ r h s. refl) (λ r q l h s. ap (pair k s) (h r)) r s
+parts-link k r s = by-parts k (λ r l. (s : Node) → link k s l ≡ pair k s r) (λ r h s. refl)
+    (λ r q l h s. ap (pair k s) (h r)) r s
 
 pub join-parts : (k : Kind) (r : Node) → join k (parts k r) ≡ r
 unfolding parts

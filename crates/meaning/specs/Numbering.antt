@@ -10,8 +10,10 @@ use native.Mathlib.Decide.{decLt}
 use lib.ListN.{set}
 use lib.Seq.{set-comm}
 use Rattle.meaning.specs.Text.{Input, Regs, State, opened, closed, wiped, cleared}
-use Rattle.meaning.specs.Node.{Node, Node.empty, Node.bset, Node.assert, Node.group, Node.seq, Node.alt, Node.many, lower, lo, hi}
-use Rattle.meaning.specs.Results.{orElse, orElse-none, firstSome, choose, later, enter, leave, put, fresh, forced, turns, limit, results, first-append, first-concatMap, first-cond, first-stop, first-turns}
+use Rattle.meaning.specs.Node.{Node, Node.empty, Node.bset, Node.assert, Node.group, Node.seq, Node.alt, Node.many, lower}
+use Rattle.meaning.specs.Node.{lo, hi}
+use Rattle.meaning.specs.Results.{orElse, orElse-none, firstSome, choose, later, enter, leave, put, fresh, forced, turns}
+use Rattle.meaning.specs.Results.{limit, results, first-append, first-concatMap, first-cond, first-stop, first-turns}
 
 -- No group of r is group k, and no loop of r makes it empty.
 abbrev pub Apart : ℕ → Node → Type 0
@@ -73,14 +75,25 @@ module _ (w : Input) (k i : ℕ) (B : Type 0) where
   unfolding forced
   forced-spares f g hf hg zero c x = hg c x
   forced-spares f g hf hg (suc n) c x =
-      rw (first-concatMap c (forced f n g) (f (put k i x)), first-concatMap (λ y. c (put k i y)) (forced f n g) (f x), hf (λ y. firstSome c (forced f n g y)) x)
+      rw (
+        first-concatMap c (forced f n g) (f (put k i x)),
+        first-concatMap (λ y. c (put k i y)) (forced f n g) (f x),
+        hf
+            (λ y. firstSome c (forced f n g y)) x,
+      )
       (ap (λ d. firstSome d (f x)) (fun-ext (λ y. forced-spares f g hf hg n c y)))
 
   turns-spares : (lazy : Bool) (f : State → List State) → Spares f → (n : ℕ) → Spares (turns lazy f n)
   turns-spares lazy f hf zero c x = first-stop c lazy f (put k i x) ∙ sym (first-stop (λ y. c (put k i y)) lazy f x)
   turns-spares lazy f hf (suc n) c x =
-      rw (first-turns c lazy f n (put k i x), first-turns (λ y. c (put k i y)) lazy f n x, hf (λ y. cond (later x y) (firstSome c (turns lazy f n y)) none) x)
-      (ap (λ d. choose orElse lazy (firstSome d (f x)) (c (put k i x))) (fun-ext (λ y. ap (λ o. cond (later x y) o none) (turns-spares lazy f hf n c y))))
+      rw (
+        first-turns c lazy f n (put k i x),
+        first-turns (λ y. c (put k i y)) lazy f n x,
+        hf
+            (λ y. cond (later x y) (firstSome c (turns lazy f n y)) none) x,
+      )
+      (ap (λ d. choose orElse lazy (firstSome d (f x)) (c (put k i x)))
+      (fun-ext (λ y. ap (λ o. cond (later x y) o none) (turns-spares lazy f hf n c y))))
 
   body-spares : (r : Node) → (k < lo r) ⊎ (hi r < k) → Spares (results w r) → Spares (λ y. results w r (fresh r y))
   body-spares r a h c x = rw (cleared-opened (lo r) (hi r) k i (x .regs) a) (h c (fresh r x))
@@ -91,8 +104,10 @@ module _ (w : Input) (k i : ℕ) (B : Type 0) where
   spares (bset s) a c x = simp first-cond
   spares (assert s) a c x = simp first-cond
   spares (group j r) a c x =
-      simp (first-concatMap, orElse-none) (rw (opened-opened j k (x .pos) i (x .regs) (a .0)) (spares r (a .1) (λ y. c (leave j y)) (enter j x)
-      ∙ ap (λ d. firstSome d (results w r (enter j x))) (fun-ext (λ y. ap (λ ρ. c (record { pos = y .pos; regs = ρ })) (closed-opened j k (y .pos) i (y .regs))))))
+      simp (first-concatMap, orElse-none) (rw (opened-opened j k (x .pos) i (x .regs) (a .0))
+      (spares r (a .1) (λ y. c (leave j y)) (enter j x)
+      ∙ ap (λ d. firstSome d (results w r (enter j x)))
+      (fun-ext (λ y. ap (λ ρ. c (record { pos = y .pos; regs = ρ })) (closed-opened j k (y .pos) i (y .regs))))))
   spares (seq r s) a c x =
       rw (
         first-concatMap c (results w s) (results w r (put k i x)),
@@ -110,7 +125,8 @@ module _ (w : Input) (k i : ℕ) (B : Type 0) where
   spares (many n e lazy r) a c x =
       let f : State → List State = λ y. results w r (fresh r y) in
       let body : Spares f = body-spares r (a .0) (spares r (a .1)) in
-      forced-spares f (λ y. turns lazy f (limit w e (y .pos)) y) body (λ d y. turns-spares lazy f body (limit w e (y .pos)) d y) n c x
+      forced-spares f (λ y. turns lazy f (limit w e (y .pos)) y) body
+      (λ d y. turns-spares lazy f body (limit w e (y .pos)) d y) n c x
 
 -- `Numbers a r b`: the groups of r are numbered from left to right, the first is a, and b is the next that is free.
 abbrev pub Numbers : ℕ → Node → ℕ → Type 0
@@ -150,10 +166,12 @@ range (assert t) a b pos e = inr (e, refl, refl)
 range (group k r) a b pos h = range-group a b k (lo r) (hi r) (h .0) (range r (suc a) b (omega arith) (h .1))
 range (seq r s) a b pos h =
     let f : Range a (lo r) (hi r) (h .0) = range r a (h .0) pos (h .1) in
-    range-join a (h .0) b (lo r) (hi r) (lo s) (hi s) pos f (range s (h .0) b (omega (arith, order a (lo r) (hi r) (h .0) f)) (h .2))
+    range-join a (h .0) b (lo r) (hi r) (lo s) (hi s) pos f
+    (range s (h .0) b (omega (arith, order a (lo r) (hi r) (h .0) f)) (h .2))
 range (alt r s) a b pos h =
     let f : Range a (lo r) (hi r) (h .0) = range r a (h .0) pos (h .1) in
-    range-join a (h .0) b (lo r) (hi r) (lo s) (hi s) pos f (range s (h .0) b (omega (arith, order a (lo r) (hi r) (h .0) f)) (h .2))
+    range-join a (h .0) b (lo r) (hi r) (lo s) (hi s) pos f
+    (range s (h .0) b (omega (arith, order a (lo r) (hi r) (h .0) f)) (h .2))
 range (many n e lazy r) a b pos h = range r a b pos h
 
 pub forwards : (r : Node) (a b : ℕ) → 1 ≤ a → Numbers a r b → a ≤ b
@@ -183,7 +201,11 @@ pub numbered : (r : Node) (a b : ℕ) → 1 ≤ a → Numbers a r b → Numbered
 numbered empty a b pos h = tt
 numbered (bset s) a b pos h = tt
 numbered (assert t) a b pos h = tt
-numbered (group k r) a b pos h = (apart k r (suc a) b (omega arith) (omega (arith, h .0)) (h .1), numbered r (suc a) b (omega arith) (h .1))
+numbered (group k r) a b pos h = (
+  apart k r (suc a) b (omega arith) (omega (arith, h .0)) (h .1),
+  numbered r (suc a) b
+      (omega arith) (h .1),
+)
 numbered (seq r s) a b pos h =
     let f : a ≤ h .0 = forwards r a (h .0) pos (h .1) in
     (numbered r a (h .0) pos (h .1), numbered s (h .0) b (omega arith) (h .2))

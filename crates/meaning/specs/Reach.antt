@@ -8,7 +8,8 @@ use native.Mathlib.Omega.{arith}
 use Rattle.meaning.specs.Tests.{lt-of, here, cond-cong, by-test}
 use Rattle.meaning.specs.Text.{Input, State, size, fits, holdsAt, fits-within}
 use Rattle.meaning.specs.Node.{Node, Node.empty, Node.bset, Node.assert, Node.group, Node.seq, Node.alt, Node.many}
-use Rattle.meaning.specs.Results.{firstSome, concatMap, choose, later, moved, enter, leave, fresh, forced, turns, limit, results}
+use Rattle.meaning.specs.Results.{firstSome, concatMap, choose, later, moved, enter, leave, fresh, forced, turns, limit}
+use Rattle.meaning.specs.Results.{results}
 
 -- P holds of every element.
 abbrev pub All : {A : Type 0} → (A → Type 0) → List A → Type 0
@@ -78,17 +79,21 @@ module _ (w : Input) where
   turns-reach lazy f hf (suc n) x hx =
       choose-all (Reach w x) lazy (concatMap (λ y. cond (later x y) (turns lazy f n y) []) (f x)) (x ∷ [])
       (all-concatMap (Reach w x) (Reach w x) (λ y. cond (later x y) (turns lazy f n y) []) (f x) (hf x hx)
-      (λ y h. all-cond (Reach w x) (later x y) (turns lazy f n y) (λ t. onward x y h (turns lazy f n y) (turns-reach lazy f hf n y (h .stop)))))
+      (λ y h. all-cond (Reach w x) (later x y) (turns lazy f n y)
+      (λ t. onward x y h (turns lazy f n y) (turns-reach lazy f hf n y (h .stop)))))
       (record { start = omega arith; stop = hx }, tt)
 
   pub body-reach : (r : Node) → Reaches (results w r) → Reaches (λ y. results w r (fresh r y))
-  body-reach r h x hx = onward x (fresh r x) (record { start = omega arith; stop = hx }) (results w r (fresh r x)) (h (fresh r x) hx)
+  body-reach r h x hx = onward x (fresh r x) (record { start = omega arith; stop = hx }) (results w r (fresh r x))
+      (h (fresh r x) hx)
 
   pub reach : (r : Node) → Reaches (results w r)
   unfolding results
   reach empty x hx = (record { start = omega arith; stop = hx }, tt)
-  reach (bset s) x hx = all-cond (Reach w x) (fits w s (x .pos)) (moved x ∷ []) (λ t. (record { start = omega arith; stop = fits-within w s (x .pos) t }, tt))
-  reach (assert a) x hx = all-cond (Reach w x) (holdsAt w a (x .pos)) (x ∷ []) (λ t. (record { start = omega arith; stop = hx }, tt))
+  reach (bset s) x hx = all-cond (Reach w x) (fits w s (x .pos)) (moved x ∷ [])
+      (λ t. (record { start = omega arith; stop = fits-within w s (x .pos) t }, tt))
+  reach (assert a) x hx = all-cond (Reach w x) (holdsAt w a (x .pos)) (x ∷ [])
+      (λ t. (record { start = omega arith; stop = hx }, tt))
   reach (group k r) x hx =
       let l : List State = results w r (enter k x) in
       let h : All (Reach w x) l = onward x (enter k x) (record { start = omega arith; stop = hx }) l (reach r (enter k x) hx) in
@@ -107,7 +112,8 @@ module _ (w : Input) where
   stops lazy f hf zero x hx h = refl
   stops lazy f hf (suc n) x hx h =
       let e : concatMap (λ y. cond (later x y) (turns lazy f n y) []) (f x) ≡ concatMap (λ y. []) (f x)
-      = concatMap-cong (Reach w x) (λ y. cond (later x y) (turns lazy f n y) []) (λ y. []) (f x) (hf x hx) (λ y g. rw (here false (x .pos) (y .pos) (omega arith))) in
+      = concatMap-cong (Reach w x) (λ y. cond (later x y) (turns lazy f n y) []) (λ y. []) (f x) (hf x hx)
+      (λ y g. rw (here false (x .pos) (y .pos) (omega arith))) in
       rw (e, concatMap-nil) (choose-nil lazy (x ∷ []))
 
   -- With as many turns as bytes are left, or more, a loop has the same results.
@@ -118,7 +124,8 @@ module _ (w : Input) where
   enough lazy f hf (suc n) zero x hx hn hm = stops lazy f hf (suc n) x hx (omega arith)
   enough lazy f hf (suc n) (suc m) x hx hn hm =
       ap (λ l. choose _++_ lazy l (x ∷ []))
-      (concatMap-cong (Reach w x) (λ y. cond (later x y) (turns lazy f n y) []) (λ y. cond (later x y) (turns lazy f m y) []) (f x) (hf x hx)
+      (concatMap-cong (Reach w x) (λ y. cond (later x y) (turns lazy f n y) []) (λ y. cond (later x y) (turns lazy f m y) [])
+      (f x) (hf x hx)
       (λ y g. cond-cong (later x y) [] (λ t.
       let lt : x .pos < y .pos = lt-of (x .pos) (y .pos) t in
       enough lazy f hf n m y (g .stop) (omega arith) (omega arith))))

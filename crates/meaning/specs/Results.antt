@@ -95,7 +95,8 @@ module _ {A B : Type 0} (c : A → Option B) where
   first-append [] m = refl
   first-append (x ∷ l) m = rw (first-append l m, orElse-assoc)
 
-  pub first-concatMap : {Z : Type 0} (f : Z → List A) (l : List Z) → firstSome c (concatMap f l) ≡ firstSome (λ z. firstSome c (f z)) l
+  pub first-concatMap : {Z : Type 0} (f : Z → List A) (l : List Z)
+      → firstSome c (concatMap f l) ≡ firstSome (λ z. firstSome c (f z)) l
   first-concatMap f [] = refl
   first-concatMap f (z ∷ l) = rw (first-append, first-concatMap f l)
 
@@ -104,12 +105,14 @@ module _ {A B : Type 0} (c : A → Option B) where
   first-cond false l = refl
 
 -- The first success over no more turns, and over at most one more.
-pub first-stop : {B : Type 0} (c : State → Option B) (lazy : Bool) (f : State → List State) (x : State) → firstSome c (turns lazy f 0 x) ≡ c x
+pub first-stop : {B : Type 0} (c : State → Option B) (lazy : Bool) (f : State → List State) (x : State)
+    → firstSome c (turns lazy f 0 x) ≡ c x
 unfolding turns
 first-stop c lazy f x = orElse-none (c x)
 
 pub first-turns : {B : Type 0} (c : State → Option B) (lazy : Bool) (f : State → List State) (n : ℕ) (x : State)
-    → firstSome c (turns lazy f (suc n) x) ≡ choose orElse lazy (firstSome (λ y. cond (later x y) (firstSome c (turns lazy f n y)) none) (f x)) (c x)
+    → firstSome c (turns lazy f (suc n) x) ≡ choose orElse lazy
+    (firstSome (λ y. cond (later x y) (firstSome c (turns lazy f n y)) none) (f x)) (c x)
 unfolding turns
 first-turns c false f n x = simp (first-append, first-concatMap, first-cond, orElse-none)
 first-turns c true f n x = simp (first-concatMap, first-cond)
