@@ -1,0 +1,10 @@
+pub mod Chars
+pub mod Escapes
+pub mod Classes
+pub mod Braces
+pub mod Answers
+pub mod Places
+pub mod EscapeLaws
+pub mod ClassLaws
+pub mod BraceLaws
+pub mod Laws

@@ -1,0 +1,124 @@
+-- What was read is written, or refused, as the reading and the number of rows say.
+use mathlib.Core.Path.{refl}
+use Rattle.atoms.specs.Places.{bytes-of}
+use Rattle.rows.specs.declared.Emission.the-variants.{TooMany, TooShort}
+use Rattle.compiler.specs.Laws.{given, given-some, turned-away, made, unmade}
+use borrow.Author.Needs.{needs}
+use Rattle.compiler.proofs.compile.Statement.{statement}
+use Rattle.compiler.proofs.compile.Tie as tie
+use Rattle.compiler.proofs.compile.Reads as reads
+use Rattle.compiler.proofs.compile.Lts as lts
+use Rattle.compiler.proofs.without_program.Reads as without-program-reads
+use Rattle.pattern.proofs.read.Reads as read-reads
+use Rattle.rows.proofs.emit.Reads as emit-reads
+
+-- src/lib.rt:31:11
+read-requires : tie.Need-read-requires
+read-requires c κs = search needs
+
+-- src/lib.rt:32:28
+enum-known-number : tie.Need-enum-known-number
+enum-known-number c = search needs
+
+-- src/lib.rt:33:28
+enum-known-records : tie.Need-enum-known-records
+enum-known-records c = search needs
+
+-- src/lib.rt:33:55
+emit-requires : tie.Need-emit-requires
+emit-requires c κs = given-some (given (bytes-of _ ((c .before .before .before .before .before .before .before .before .before .before .before .shared-slice-known) .given)) ((c .before .before .before .before .before .before .before .read) .ensures) ((c .before .before .before .records) .given .1))
+
+-- src/lib.rt:34:28
+enum-known-rows : tie.Need-enum-known-rows
+enum-known-rows c = search needs
+
+-- src/lib.rt:35:50
+enum-told : tie.Need-enum-told
+enum-told c = search needs
+
+-- src/lib.rt:35:34
+without-program-requires : tie.Need-without-program-requires
+without-program-requires c κs = search needs
+
+-- src/lib.rt:36:51
+enum-told-2 : tie.Need-enum-told-2
+enum-told-2 c = search needs
+
+-- src/lib.rt:36:35
+without-program-requires-2 : tie.Need-without-program-requires-2
+without-program-requires-2 c κs = search needs
+
+-- src/lib.rt:27:1
+same-length : tie.Need-same-length
+same-length c = search needs
+
+-- src/lib.rt:27:1
+returns : tie.Need-returns
+returns c = turned-away ((c .before .before .before .before .before .read) .ensures) ((c .before .number) .given .1)
+
+-- src/lib.rt:27:1
+same-length-2 : tie.Need-same-length-2
+same-length-2 c = search needs
+
+-- src/lib.rt:27:1
+same-length-3 : tie.Need-same-length-3
+same-length-3 c = search needs
+
+-- src/lib.rt:27:1
+returns-2 : tie.Need-returns-2
+returns-2 c =
+    let known = given (bytes-of _ ((c .before .before .before .before .before .before .before .before .before .before .before .before .before .before .before .before .before .shared-slice-known) .given)) ((c .before .before .before .before .before .before .before .before .before .before .before .before .before .read) .ensures) ((c .before .before .before .before .before .before .before .before .before .records) .given .1) in
+    made _ known ((c .before .before .before .before .before .emit) .ensures) ((c .before .rows) .given .1) refl
+
+-- src/lib.rt:27:1
+same-length-4 : tie.Need-same-length-4
+same-length-4 c = search needs
+
+-- src/lib.rt:27:1
+same-length-5 : tie.Need-same-length-5
+same-length-5 c = search needs
+
+-- src/lib.rt:27:1
+returns-3 : tie.Need-returns-3
+returns-3 c =
+    let known = given (bytes-of _ ((c .before .before .before .before .before .before .before .before .before .before .before .before .before .before .before .before .before .before .before .before .shared-slice-known) .given)) ((c .before .before .before .before .before .before .before .before .before .before .before .before .before .before .before .before .read) .ensures) ((c .before .before .before .before .before .before .before .before .before .before .before .before .records) .given .1) in
+    unmade TooMany known ((c .before .before .before .before .before .before .before .before .emit) .ensures) ((c .before .before .before .before .enum-told) .given .1) ((c .before .before .without-program) .ensures) refl refl
+
+-- src/lib.rt:27:1
+same-length-6 : tie.Need-same-length-6
+same-length-6 c = search needs
+
+-- src/lib.rt:27:1
+same-length-7 : tie.Need-same-length-7
+same-length-7 c = search needs
+
+-- src/lib.rt:27:1
+returns-4 : tie.Need-returns-4
+returns-4 c =
+    let known = given (bytes-of _ ((c .before .before .before .before .before .before .before .before .before .before .before .before .before .before .before .before .before .before .before .before .shared-slice-known) .given)) ((c .before .before .before .before .before .before .before .before .before .before .before .before .before .before .before .before .read) .ensures) ((c .before .before .before .before .before .before .before .before .before .before .before .before .records) .given .1) in
+    unmade TooShort known ((c .before .before .before .before .before .before .before .before .emit) .ensures) ((c .before .before .before .before .enum-told2) .given .1) ((c .before .before .without-program2) .ensures) refl refl
+
+pub compile-spec : {M : Type 1} → statement M
+compile-spec =
+    tie.close
+    (tie.spec
+    read-requires
+    enum-known-number
+    enum-known-records
+    emit-requires
+    enum-known-rows
+    enum-told
+    without-program-requires
+    enum-told-2
+    without-program-requires-2
+    same-length
+    returns
+    same-length-2
+    same-length-3
+    returns-2
+    same-length-4
+    same-length-5
+    returns-3
+    same-length-6
+    same-length-7
+    returns-4)

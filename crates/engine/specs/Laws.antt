@@ -1,0 +1,289 @@
+-- Refusals in their order, and what a run that was not turned away leaves.
+use mathlib.Core.Path.{_≡_, refl, sym, ap, ap₂, _∙_, subst}
+use mathlib.Core.Bool.{Bool, true, false, cond, true≢false}
+use mathlib.Core.Option.{Option, none, some}
+use mathlib.Core.List.{List, [], _∷_, _++_, map}
+use Prim.Native.Nat.{ℕ, zero, suc, _+_, _*_, _-_, _<_, _≤_}
+use native.Mathlib.Nat.{mul-le-mul, not-suc-le-zero}
+use native.Mathlib.Numerals.{add-one}
+use native.Mathlib.Omega.{arith}
+use borrow.Author.Tests.{le-leb, lt-leb, leb-true, lt-ltb, le-ltb}
+use lib.Dec.{leb}
+use lib.IntN.{ℤ, pos, negsuc}
+use lib.Signed.{mag}
+use mir.Syntax.{w32}
+use mir.Val.{toZ, ofZ}
+use mir.Facts.{toZ-ofZ}
+use lib.ListN.{length, getD, set, take, drop, replicate, length-append, length-map}
+use lib.Seq.{take-suc, drop-cons, getD-take, getD-drop, set-at, length-take-le}
+use Rattle.meaning.specs.Text.{Regs, registersOf}
+use Rattle.meaning.specs.Bytes.{textOf}
+use Rattle.meaning.specs.Limits.{textLimit, workspaceWords, leastRows}
+use Rattle.machine.specs.Steps.{Machine, best, count}
+use Rattle.machine.specs.Words.{rowsSaid, groupsSaid, decode, codePasses}
+use Rattle.machine.specs.Coded.{rowsIn-length}
+use Rattle.machine.specs.Passed.{run-frugal}
+use Rattle.machine.specs.Replies.{Reply, Reply.found, Reply.missing, Reply.refused, refusal, runOf, answerOf, replyTo}
+use Rattle.machine.specs.Replies.{reply, shown, spans, registersFrom, registersAfter}
+use Rattle.moves.specs.Ready.{Ready, ready}
+use Rattle.threads.specs.Words.{wordsAt}
+use Rattle.threads.specs.Threads.{nowhere, regOf}
+use Rattle.threads.specs.Laws.{words-at, words-length}
+use Rattle.settle.specs.Moved.{bestOf}
+use Rattle.running.specs.Ran.{RanAs}
+use Rattle.running.specs.declared.Ran.{Ran}
+use Rattle.engine.specs.Answers.{replyOf, executed, shownWord, Answered}
+use Rattle.engine.specs.declared.Answer.{Answer}
+use Rattle.engine.specs.declared.Answer.the-variants.{Found, Missing, Refused}
+
+-- ---- refusals
+
+-- Positions of a text that is not too long fit a register.
+pub text-small : textLimit + 2 < 2147483648
+text-small = omega arith
+
+module _ (code text : List ℕ) (start registers workspace : ℕ) where
+  pub refuses-code : codePasses code ≡ false → 20 ≡ refusal code text start registers workspace
+  unfolding refusal
+  refuses-code e = rw e
+
+  module _ (p : codePasses code ≡ true) where
+    pub refuses-text : textLimit < length text → 21 ≡ refusal code text start registers workspace
+    unfolding refusal
+    refuses-text h = rw (p, lt-leb (length text) textLimit h)
+
+    module _ (t : length text ≤ textLimit) where
+      pub refuses-start : length text < start → 22 ≡ refusal code text start registers workspace
+      unfolding refusal
+      refuses-start h = rw (p, le-leb (length text) textLimit t, lt-leb start (length text) h)
+
+      module _ (s : start ≤ length text) where
+        pub refuses-registers : registers < registersOf (groupsSaid code) → 23 ≡ refusal code text start registers workspace
+        unfolding refusal
+        refuses-registers h = rw (
+          p,
+          le-leb (length text) textLimit t,
+          le-leb start (length text) s,
+          lt-leb (registersOf (groupsSaid code)) registers h,
+        )
+
+        module _ (r : registersOf (groupsSaid code) ≤ registers) where
+          pub refuses-workspace : workspace < workspaceWords (rowsSaid code) (groupsSaid code)
+              → 24 ≡ refusal code text start registers workspace
+          unfolding refusal
+          refuses-workspace h =
+              rw (
+                p,
+                le-leb (length text) textLimit t,
+                le-leb start (length text) s,
+                le-leb (registersOf (groupsSaid code)) registers r,
+                lt-leb (workspaceWords (rowsSaid code) (groupsSaid code)) workspace h,
+              )
+
+          pub refuses-nothing : workspaceWords (rowsSaid code) (groupsSaid code) ≤ workspace
+              → 0 ≡ refusal code text start registers workspace
+          unfolding refusal
+          refuses-nothing h =
+              rw (
+                p,
+                le-leb (length text) textLimit t,
+                le-leb start (length text) s,
+                le-leb (registersOf (groupsSaid code)) registers r,
+                le-leb (workspaceWords (rowsSaid code) (groupsSaid code)) workspace h,
+              )
+
+-- What holds of a call that is not turned away.
+pub record Allowed (code text : List ℕ) (start registers workspace : ℕ) : Type 0 where
+  pub passes : codePasses code ≡ true
+  pub short : length text ≤ textLimit
+  pub inside : start ≤ length text
+  pub enough : registersOf (groupsSaid code) ≤ registers
+  pub room : workspaceWords (rowsSaid code) (groupsSaid code) ≤ workspace
+
+abbrev choices : Bool → Bool → Bool → Bool → Bool → ℕ
+choices a b c d e = cond a (cond b (cond c (cond d (cond e 0 24) 23) 22) 21) 20
+
+chosen-none : (a b c d e : Bool) → choices a b c d e ≡ 0 → (a ≡ true) × (b ≡ true) × (c ≡ true) × (d ≡ true) × (e ≡ true)
+chosen-none true true true true true z = (refl, refl, refl, refl, refl)
+chosen-none true true true true false z = absurd (omega arith)
+chosen-none true true true false e z = absurd (omega arith)
+chosen-none true true false d e z = absurd (omega arith)
+chosen-none true false c d e z = absurd (omega arith)
+chosen-none false b c d e z = absurd (omega arith)
+
+pub allowed : (code text : List ℕ) (start registers workspace : ℕ) → refusal code text start registers workspace ≡ 0
+    → Allowed code text start registers workspace
+unfolding refusal
+allowed code text start registers workspace z =
+    let f = chosen-none (codePasses code) (leb (length text) textLimit) (leb start (length text))
+    (leb (registersOf (groupsSaid code)) registers)
+    (leb (workspaceWords (rowsSaid code) (groupsSaid code)) workspace) z in
+    record {
+      passes = f .0;
+      short = leb-true _ _ (f .1);
+      inside = leb-true _ _ (f .2);
+      enough = leb-true _ _ (f .3);
+      room =
+          leb-true _ _ (f .4);
+    }
+
+-- The words that a run needs are few.
+pub words-few : (n g : ℕ) → n ≤ 1024 → g ≤ 1024 → 16 * n * (g + 2) ≤ 16809984
+words-few n g a b = let d : 16 * n ≤ 16384 = omega arith in let e : g + 2 ≤ 1026 = omega arith in mul-le-mul d e
+
+-- ---- registers
+
+pub shows-position : (v : ℕ) → v < 2147483648 → pos v ≡ shown (regOf v)
+unfolding regOf
+shows-position v h = rw (lt-ltb v 2147483648 h)
+
+pub shows-none : (v : ℕ) → 2147483648 ≤ v → negsuc 0 ≡ shown (regOf v)
+unfolding regOf
+shows-none v h = rw (le-ltb v 2147483648 h)
+
+map-snoc : (xs : List ℕ) (x : ℕ) → map shownWord (xs ++ (x ∷ [])) ≡ map shownWord xs ++ (shownWord x ∷ [])
+map-snoc [] x = refl
+map-snoc (y ∷ xs) x = ap (λ (zs : List ℤ). shownWord y ∷ zs) (map-snoc xs x)
+
+snoc-append : (xs : List ℤ) (x : ℤ) (ys : List ℤ) → (xs ++ (x ∷ [])) ++ ys ≡ xs ++ (x ∷ ys)
+snoc-append [] x ys = refl
+snoc-append (y ∷ xs) x ys = ap (λ (zs : List ℤ). y ∷ zs) (snoc-append xs x ys)
+
+-- one register more is shown
+pub shown-more : (s : List ℕ) (from i : ℕ) (before now : List ℤ) (v : ℤ) → from + i < length s → i < length before
+    → now ≡ map shownWord (wordsAt s from i) ++ drop i before → v ≡ shownWord (getD s (from + i) 0)
+    → set now i v ≡ map shownWord (wordsAt s from (i + 1)) ++ drop (i + 1) before
+shown-more s from i before now v h l e ev =
+    let long : length (map shownWord (wordsAt s from i)) ≡ i = length-map (wordsAt s from i) shownWord
+    ∙ words-length s from i (omega arith) in
+    let lf : i < length (drop from s) = simp lib.ListN.length-drop (omega arith) in
+    let more : wordsAt s from (i + 1) ≡ wordsAt s from i ++ (getD s (from + i) 0 ∷ [])
+    = rw add-one (take-suc (drop from s) i 0 lf)
+    ∙ ap (λ (x : ℕ). take i (drop from s) ++ (x ∷ [])) (getD-drop from s i 0) in
+    let rest : drop i before ≡ getD before i (pos 0) ∷ drop (i + 1) before = rw add-one (drop-cons before i (pos 0) l) in
+    ap (λ (xs : List ℤ). set xs i v) (e ∙ ap (λ (xs : List ℤ). map shownWord (wordsAt s from i) ++ xs) rest)
+    ∙ set-at (map shownWord (wordsAt s from i)) (getD before i (pos 0)) (drop (i + 1) before) v i long
+    ∙ ap (λ (x : ℤ). map shownWord (wordsAt s from i) ++ (x ∷ drop (i + 1) before)) ev
+    ∙ sym (ap (λ (xs : List ℕ). map shownWord xs ++ drop (i + 1) before) more
+    ∙ ap (λ (xs : List ℤ). xs ++ drop (i + 1) before) (map-snoc (wordsAt s from i) (getD s (from + i) 0))
+    ∙ snoc-append (map shownWord (wordsAt s from i)) (shownWord (getD s (from + i) 0)) (drop (i + 1) before))
+
+map-both : (rs : List ℕ) → map shown (map regOf rs) ≡ map shownWord rs
+map-both [] = refl
+map-both (v ∷ rs) = ap (λ (xs : List ℤ). shownWord v ∷ xs) (map-both rs)
+
+shown-nowhere : shownWord nowhere ≡ negsuc 0
+unfolding regOf
+shown-nowhere = refl
+
+map-unset : (w : ℕ) → map shownWord (replicate w nowhere) ≡ replicate w (negsuc 0)
+map-unset zero = refl
+map-unset (suc w) = ap₂ (λ (x : ℤ) (xs : List ℤ). x ∷ xs) shown-nowhere (map-unset w)
+
+-- the spans of a result are what its words show
+spans-are : (g : ℕ) (f : Bool) (words : List ℕ) → (f ≡ false → words ≡ replicate (registersOf g) nowhere)
+    → map shownWord words ≡ spans g (bestOf f words none)
+spans-are g true words h = sym (map-both words)
+spans-are g false words h = ap (map shownWord) (h refl) ∙ map-unset (registersOf g)
+
+-- ---- the answer
+
+module _ (code text : List ℕ) (start row : ℕ) (before : List ℤ) (workspace : List ℕ) where
+  abbrev why : ℕ
+  why = refusal code text start (length before) (length workspace)
+
+  refused-reply : (number : ℕ) → number ≡ why → (number ≡ 0 → ⊥)
+      → refused number ≡ reply code text start (length before) (length workspace) row
+  unfolding reply
+  refused-reply zero e ne = absurd (ne refl)
+  refused-reply (suc number) e ne = ap (λ (k : ℕ). replyTo k (runOf code text start row)) e
+
+  refused-registers : (number : ℕ) → number ≡ why → (number ≡ 0 → ⊥)
+      → before ≡ registersAfter code text start before (length workspace) row
+  unfolding registersAfter
+  refused-registers zero e ne = absurd (ne refl)
+  refused-registers (suc number) e ne = ap
+      (λ (k : ℕ). registersFrom k (groupsSaid code) (runOf code text start row) before) e
+
+  -- a call that is turned away
+  pub refused-answer : (number : ℕ) → number ≡ why → (number ≡ 0 → ⊥)
+      → Answered code text start row before workspace (Refused number) before workspace
+  refused-answer number e ne =
+      record {
+        replies = refused-reply number e ne;
+        spans = refused-registers number e ne;
+        long = refl;
+        later = λ i h. refl;
+        untouched = λ k z. refl;
+        bounded = omega arith;
+      }
+
+  -- a call that is not
+  module _ (none-why : why ≡ 0) (low : row < leastRows) (after : List ℕ) (long : length after ≡ length workspace)
+      (ran : Ran) (w : RanAs code text start row workspace after ran) where
+    abbrev M : Machine
+    M = runOf code text start row
+
+    abbrev words : List ℕ
+    words = wordsAt after (ran .best) (ran .width)
+
+    reply-is : (f : Bool) → ran .found ≡ f
+        → answerOf (bestOf f words none) (ran .count) ≡ reply code text start (length before) (length workspace) row
+    unfolding reply
+    reply-is f e = ap₂ answerOf (ap (λ (b : Bool). bestOf b words none) (sym e) ∙ sym (w .result)) (sym (w .count))
+        ∙ ap (λ (k : ℕ). replyTo k M) (sym none-why)
+
+    registers-are : map shownWord words ++ drop (ran .width) before ≡ registersAfter code text start before
+        (length workspace) row
+    unfolding registersAfter
+    registers-are =
+        ap₂ (λ (xs : List ℤ) (k : ℕ). xs ++ drop k before)
+        (spans-are (groupsSaid code) (ran .found) words (λ z. w .unset z ∙ ap (λ (k : ℕ). replicate k nowhere) (w .width))
+        ∙ ap (spans (groupsSaid code)) (sym (w .result))) (w .width)
+        ∙ ap (λ (k : ℕ). registersFrom k (groupsSaid code) M before) (sym none-why)
+
+    frugal : ran .count ≤ 2 * rowsSaid code * (length text - start + 1)
+    frugal =
+        let a = allowed code text start (length before) (length workspace) none-why in
+        let r = ready code (a .passes) in
+        let e = rowsIn-length code (rowsSaid code) 0 in
+        subst (λ (k : ℕ). ran .count ≤ 2 * k * (length text - start + 1)) e
+        (subst (λ (k : ℕ). k ≤ 2 * length (decode code .rows) * (length text - start + 1)) (w .count)
+        (run-frugal (decode code) (r .rows) (textOf text) start row (omega (arith, r .least)) (a .inside)))
+
+    pub found-answer : ran .found ≡ true
+        → Answered code text start row before workspace (Found (ran .count))
+        (map shownWord words ++ drop (ran .width) before) after
+    found-answer e =
+        record {
+          replies = reply-is true e;
+          spans = registers-are;
+          long = long;
+          later = w .tail;
+          untouched = λ k z. absurd (let y : _≡_ {A = ℕ} 0 1 = cc in omega arith);
+          bounded = frugal;
+        }
+
+    pub missing-answer : ran .found ≡ false
+        → Answered code text start row before workspace (Missing (ran .count))
+        (map shownWord words ++ drop (ran .width) before) after
+    missing-answer e =
+        record {
+          replies = reply-is false e;
+          spans = registers-are;
+          long = long;
+          later = w .tail;
+          untouched = λ k z. absurd (let y : _≡_ {A = ℕ} 0 1 = cc in omega arith);
+          bounded = frugal;
+        }
+
+-- what holds of registers holds of equal ones
+pub with-registers : {code text : List ℕ} {start row : ℕ} {before after after′ : List ℤ} {workspace left : List ℕ} {r : Answer}
+    → after ≡ after′ → Answered code text start row before workspace r after′ left
+    → Answered code text start row before workspace r after left
+with-registers {code} {text} {start} {row} {before} {workspace = workspace} {left = left} {r = r} e a =
+    subst (λ (xs : List ℤ). Answered code text start row before workspace r xs left) (sym e) a
+
+-- a signed number is read back from its bits
+pub read-back : (z : ℤ) → mag z < 2147483648 → toZ w32 (ofZ w32 z) ≡ z
+read-back z m = toZ-ofZ (record { sfits = m })

@@ -1,0 +1,14 @@
+pub mod Atoms
+pub mod Grammar
+pub mod AtomsSound
+pub mod ClassesSound
+pub mod CountsSound
+pub mod Sound
+pub mod EscapesComplete
+pub mod ClassesComplete
+pub mod CountsComplete
+pub mod Complete
+pub mod Refusals
+pub mod Within
+pub mod WrongEscapes
+pub mod Forwards

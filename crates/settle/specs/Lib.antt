@@ -1,0 +1,5 @@
+pub mod Moved
+pub mod Means
+pub mod Apply
+pub mod Turns
+pub mod Settling

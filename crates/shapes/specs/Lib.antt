@@ -1,0 +1,12 @@
+pub mod Skeleton
+pub mod Spots
+pub mod Placed
+pub mod Climb
+pub mod Tokens
+pub mod Laws
+pub mod Edits
+pub mod Parse
+pub mod Told
+pub mod Settling
+pub mod Fresh
+pub mod Replaced

@@ -1,0 +1,3 @@
+-- What the proofs of `along`, `derive` and `put` use.
+mod Walk
+mod Made

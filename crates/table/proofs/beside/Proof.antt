@@ -1,0 +1,37 @@
+use borrow.Author.Needs.{needs}
+use Rattle.table.proofs.beside.Statement.{statement}
+use Rattle.table.proofs.beside.Tie as tie
+use Rattle.table.proofs.beside.Reads as reads
+use Rattle.table.proofs.beside.Lts as lts
+use Rattle.table.proofs.capped.Reads as capped-reads
+use Rattle.table.proofs.first_with.Reads as first-with-reads
+use Rattle.table.proofs.higher.Reads as higher-reads
+
+-- src/lib.rt:82:18
+add-t3 : tie.Need-add-t3
+add-t3 c = search needs
+
+-- src/lib.rt:83:22
+add-capped : tie.Need-add-capped
+add-capped c = search needs
+
+-- src/lib.rt:83:15
+capped-requires : tie.Need-capped-requires
+capped-requires c κs = search needs
+
+-- src/lib.rt:84:17
+first-with-requires : tie.Need-first-with-requires
+first-with-requires c κs = search needs
+
+-- src/lib.rt:85:18
+higher-requires : tie.Need-higher-requires
+higher-requires c κs = search needs
+
+-- src/lib.rt:77:1
+returns : tie.Need-returns
+returns c = cc
+
+pub beside-spec : {M : Type 1} → statement M
+beside-spec =
+    tie.close
+    (tie.spec add-t3 add-capped capped-requires first-with-requires higher-requires returns)

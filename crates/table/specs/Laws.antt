@@ -1,0 +1,270 @@
+-- Laws of the records of a pattern: they are the records of its parts, left to right, and then its own.
+use mathlib.Core.Path.{_≡_, refl, sym, ap, ap₂, _∙_}
+use mathlib.Core.Option.{Option, none, some}
+use mathlib.Core.List.{List, [], _∷_, _++_, append-assoc, append-nil}
+use Prim.Native.Nat.{ℕ, zero, suc, _+_, _*_, _≤_, _<_}
+use native.Mathlib.Omega.{arith}
+use lib.ListN.{length, length-append, replicate}
+use Rattle.meaning.specs.Limits.{countLimit}
+use Rattle.meaning.specs.Node.{Node, Node.empty, Node.bset, Node.assert, Node.group, Node.seq, Node.alt, Node.many, Proper}
+use Rattle.meaning.specs.Flat.{Kind, Kind.sequence, Kind.alternation, pair, Not, parts, link, join, Flat, by-parts}
+use Rattle.meaning.specs.Results.{concatMap}
+use Rattle.table.specs.Table.{recordWords, maximum, bitOf, unless, recordsIn, recordCount, recordOf, ownRecord, wordsIn}
+use Rattle.table.specs.Table.{records}
+
+-- What holds of each part of a list.
+abbrev pub Each : (Node → Type 0) → List Node → Type 0
+Each P [] = Unit {0}
+Each P (r ∷ l) = P r × Each P l
+
+pub each-append : (P : Node → Type 0) (l m : List Node) → Each P l → Each P m → Each P (l ++ m)
+each-append P [] m a b = b
+each-append P (r ∷ l) m a b = (a .0, each-append P l m (a .1) b)
+
+pub each-left : (P : Node → Type 0) (l m : List Node) → Each P (l ++ m) → Each P l
+each-left P [] m a = tt
+each-left P (r ∷ l) m a = (a .0, each-left P l m (a .1))
+
+pub each-right : (P : Node → Type 0) (l m : List Node) → Each P (l ++ m) → Each P m
+each-right P [] m a = a
+each-right P (r ∷ l) m a = each-right P l m (a .1)
+
+-- The parts that a pattern's own record closes.
+unfoldable pub inner : Node → List Node
+inner empty = []
+inner (bset s) = []
+inner (assert a) = []
+inner (group k r) = r ∷ []
+inner (seq r q) = r ∷ parts sequence q
+inner (alt r q) = r ∷ parts alternation q
+inner (many n e lazy r) = r ∷ []
+
+-- The words of a pattern's own record that say what it is: its kind, its operand and its last eight words.
+abbrev pub kindOf : Node → ℕ
+kindOf empty = 1
+kindOf (bset s) = 2
+kindOf (assert a) = 3
+kindOf (group k r) = 4
+kindOf (seq r q) = 5
+kindOf (alt r q) = 6
+kindOf (many n e lazy r) = 7
+
+abbrev pub operandOf : Node → ℕ
+operandOf empty = 0
+operandOf (bset s) = 0
+operandOf (assert a) = a
+operandOf (group k r) = k
+operandOf (seq r q) = 0
+operandOf (alt r q) = 0
+operandOf (many n e lazy r) = 0
+
+abbrev pub lastOf : Node → List ℕ
+lastOf empty = replicate 8 0
+lastOf (bset s) = s
+lastOf (assert a) = replicate 8 0
+lastOf (group k r) = replicate 8 0
+lastOf (seq r q) = replicate 8 0
+lastOf (alt r q) = replicate 8 0
+lastOf (many n e lazy r) = n ∷ maximum n e ∷ bitOf lazy ∷ replicate 5 0
+
+pub own : (r : Node) → ownRecord r ≡ recordOf (kindOf r) (operandOf r) (length (inner r)) r (lastOf r)
+unfolding ownRecord inner parts
+own empty = refl
+own (bset s) = refl
+own (assert a) = refl
+own (group k r) = refl
+own (seq r q) = refl
+own (alt r q) = refl
+own (many n e lazy r) = refl
+
+-- The number of records of a list of parts.
+abbrev pub countAll : List Node → ℕ
+countAll [] = 0
+countAll (r ∷ l) = recordCount r + countAll l
+
+pub count-append : (l m : List Node) → countAll (l ++ m) ≡ countAll l + countAll m
+count-append [] m = omega arith
+count-append (r ∷ l) m = omega (arith, count-append l m)
+
+pub records-append : (l m : List Node) → concatMap records (l ++ m) ≡ concatMap records l ++ concatMap records m
+records-append [] m = refl
+records-append (r ∷ l) m = rw (records-append l m) (sym (append-assoc (records r) (concatMap records l) (concatMap records m)))
+
+-- In a row of parts of a kind a pattern has the records of its parts of that kind.
+alone-words : (k : Kind) (r : Node) → Not k r → wordsIn (some k) r ≡ records r
+unfolding wordsIn
+alone-words k empty h = refl
+alone-words k (bset s) h = refl
+alone-words k (assert a) h = refl
+alone-words k (group n r) h = refl
+alone-words sequence (seq r q) h = absurd h
+alone-words alternation (seq r q) h = refl
+alone-words sequence (alt r q) h = refl
+alone-words alternation (alt r q) h = absurd h
+alone-words k (many n e lazy r) h = refl
+
+alone-count : (k : Kind) (r : Node) → Not k r → recordsIn (some k) r ≡ recordCount r
+unfolding recordsIn
+alone-count k empty h = refl
+alone-count k (bset s) h = refl
+alone-count k (assert a) h = refl
+alone-count k (group n r) h = refl
+alone-count sequence (seq r q) h = absurd h
+alone-count alternation (seq r q) h = refl
+alone-count sequence (alt r q) h = refl
+alone-count alternation (alt r q) h = absurd h
+alone-count k (many n e lazy r) h = refl
+
+more-words : (k : Kind) (r q : Node) (l : List Node) → wordsIn (some k) q ≡ concatMap records l
+    → wordsIn (some k) (pair k r q) ≡ concatMap records (r ∷ l)
+unfolding wordsIn
+more-words sequence r q l e = append-nil _ ∙ ap (λ x. records r ++ x) e
+more-words alternation r q l e = append-nil _ ∙ ap (λ x. records r ++ x) e
+
+more-count : (k : Kind) (r q : Node) (l : List Node) → recordsIn (some k) q ≡ countAll l
+    → recordsIn (some k) (pair k r q) ≡ countAll (r ∷ l)
+unfolding recordsIn
+more-count sequence r q l e = omega arith
+more-count alternation r q l e = omega arith
+
+pub row-words : (k : Kind) (r : Node) → wordsIn (some k) r ≡ concatMap records (parts k r)
+row-words k = by-parts k (λ r l. wordsIn (some k) r ≡ concatMap records l)
+    (λ r h. alone-words k r h ∙ sym (append-nil (records r))) (more-words k)
+
+pub row-count : (k : Kind) (r : Node) → recordsIn (some k) r ≡ countAll (parts k r)
+row-count k = by-parts k (λ r l. recordsIn (some k) r ≡ countAll l) (λ r h. omega (arith, alone-count k r h)) (more-count k)
+
+-- A pattern's records are those of its parts, and then its own.
+pub inner-words : (r : Node) → records r ≡ concatMap records (inner r) ++ ownRecord r
+unfolding wordsIn inner
+inner-words empty = refl
+inner-words (bset s) = refl
+inner-words (assert a) = refl
+inner-words (group k r) = rw (append-nil (records r))
+inner-words (seq r q) = rw (row-words sequence q)
+inner-words (alt r q) = rw (row-words alternation q)
+inner-words (many n e lazy r) = rw (append-nil (records r))
+
+pub inner-count : (r : Node) → recordCount r ≡ countAll (inner r) + 1
+unfolding recordsIn inner
+inner-count empty = refl
+inner-count (bset s) = refl
+inner-count (assert a) = refl
+inner-count (group k r) = omega arith
+inner-count (seq r q) = rw (row-count sequence q)
+inner-count (alt r q) = rw (row-count alternation q)
+inner-count (many n e lazy r) = omega arith
+
+-- The parts of a proper pattern are proper.
+pub parts-proper : (k : Kind) (r : Node) → Proper r → Each Proper (parts k r)
+parts-proper k = by-parts k (λ r l. Proper r → Each Proper l) (λ r h p. (p, tt)) (more k)
+  where
+    more : (k : Kind) (r q : Node) (l : List Node) → (Proper q → Each Proper l) → Proper (pair k r q) → Each Proper (r ∷ l)
+    more sequence r q l f p = (p .0, f (p .1))
+    more alternation r q l f p = (p .0, f (p .1))
+
+pub inner-proper : (r : Node) → Proper r → Each Proper (inner r)
+unfolding inner
+inner-proper empty p = tt
+inner-proper (bset s) p = tt
+inner-proper (assert a) p = tt
+inner-proper (group k r) p = (p, tt)
+inner-proper (seq r q) p = (p .0, parts-proper sequence q (p .1))
+inner-proper (alt r q) p = (p .0, parts-proper alternation q (p .1))
+inner-proper (many n e lazy r) p = (p, tt)
+
+-- A proper pattern has 16 words for each record.
+pub last-eight : (r : Node) → Proper r → length (lastOf r) ≡ 8
+last-eight empty p = refl
+last-eight (bset s) p = p .eight
+last-eight (assert a) p = refl
+last-eight (group k r) p = refl
+last-eight (seq r q) p = refl
+last-eight (alt r q) p = refl
+last-eight (many n e lazy r) p = refl
+
+pub own-long : (r : Node) → Proper r → length (ownRecord r) ≡ recordWords
+own-long r p = rw (own r) (omega (arith, last-eight r p))
+
+unless-long : (t : Option Kind) (k : Kind) (r : Node) → Proper r
+    → length (unless t k [] (ownRecord r)) ≡ recordWords * unless t k 0 1
+unless-long none k r p = own-long r p
+unless-long (some sequence) sequence r p = refl
+unless-long (some sequence) alternation r p = own-long r p
+unless-long (some alternation) sequence r p = own-long r p
+unless-long (some alternation) alternation r p = refl
+
+long-in : (t : Option Kind) (r : Node) → Proper r → length (wordsIn t r) ≡ recordWords * recordsIn t r
+unfolding wordsIn recordsIn
+long-in t empty p = own-long empty p
+long-in t (bset s) p = own-long (bset s) p
+long-in t (assert a) p = own-long (assert a) p
+long-in t (group k r) p = omega (
+  arith,
+  length-append (records r) (ownRecord (group k r)),
+  long-in none r p,
+  own-long
+      (group k r) p,
+)
+long-in t (seq r q) p = omega (
+  arith,
+  length-append (records r ++ wordsIn (some sequence) q) (unless t sequence [] (ownRecord (seq r q))),
+  length-append (records r) (wordsIn (some sequence) q),
+  long-in none r (p .0),
+  long-in (some sequence) q (p .1),
+  unless-long t sequence (seq r q) p,
+)
+long-in t (alt r q) p = omega (
+  arith,
+  length-append (records r ++ wordsIn (some alternation) q) (unless t alternation [] (ownRecord (alt r q))),
+  length-append (records r) (wordsIn (some alternation) q),
+  long-in none r (p .0),
+  long-in (some alternation) q (p .1),
+  unless-long t alternation (alt r q) p,
+)
+long-in t (many n e lazy r) p =
+    omega (arith, length-append (records r) (ownRecord (many n e lazy r)), long-in none r p, own-long (many n e lazy r) p)
+
+pub long : (r : Node) → Proper r → length (records r) ≡ recordWords * recordCount r
+long r p = long-in none r p
+
+pub long-all : (l : List Node) → Each Proper l → length (concatMap records l) ≡ recordWords * countAll l
+long-all [] p = refl
+long-all (r ∷ l) p = omega (arith, length-append (records r) (concatMap records l), long r (p .0), long-all l (p .1))
+
+-- Parts that are not of a kind are the parts of what they make, and those of a flat pattern are not of the kind.
+pub parts-alone : (k : Kind) (r : Node) → Not k r → parts k r ≡ r ∷ []
+unfolding parts
+parts-alone k empty h = refl
+parts-alone k (bset s) h = refl
+parts-alone k (assert a) h = refl
+parts-alone k (group n r) h = refl
+parts-alone sequence (seq r q) h = absurd h
+parts-alone alternation (seq r q) h = refl
+parts-alone sequence (alt r q) h = refl
+parts-alone alternation (alt r q) h = absurd h
+parts-alone k (many n e lazy r) h = refl
+
+pub parts-link : (k : Kind) (r : Node) (l : List Node) → Each (Not k) (r ∷ l) → parts k (link k r l) ≡ r ∷ l
+unfolding parts
+parts-link k r [] h = parts-alone k r (h .0)
+parts-link sequence r (q ∷ l) h = ap (λ x. r ∷ x) (parts-link sequence q l (h .1))
+parts-link alternation r (q ∷ l) h = ap (λ x. r ∷ x) (parts-link alternation q l (h .1))
+
+pub parts-flat : (k : Kind) (r : Node) → Flat r → Each (Not k) (parts k r)
+parts-flat k = by-parts k (λ r l. Flat r → Each (Not k) l) (λ r h f. (h, tt)) (more k)
+  where
+    more : (k : Kind) (r q : Node) (l : List Node) → (Flat q → Each (Not k) l) → Flat (pair k r q) → Each (Not k) (r ∷ l)
+    more sequence r q l f p = (p .0, f (p .2))
+    more alternation r q l f p = (p .0, f (p .2))
+
+-- Two or more parts that are not of a kind are what the pattern that they make closes.
+pub inner-link : (k : Kind) (r q : Node) (l : List Node) → Each (Not k) (r ∷ q ∷ l) → inner (link k r (q ∷ l)) ≡ r ∷ q ∷ l
+unfolding inner
+inner-link sequence r q l h = ap (λ x. r ∷ x) (parts-link sequence q l (h .1))
+inner-link alternation r q l h = ap (λ x. r ∷ x) (parts-link alternation q l (h .1))
+
+pub proper-link : (k : Kind) (r : Node) (l : List Node) → Each Proper (r ∷ l) → Proper (link k r l)
+proper-link k r [] p = p .0
+proper-link sequence r (q ∷ l) p = (p .0, proper-link sequence q l (p .1))
+proper-link alternation r (q ∷ l) p = (p .0, proper-link alternation q l (p .1))

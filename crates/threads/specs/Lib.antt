@@ -1,0 +1,4 @@
+pub mod Words
+pub mod Threads
+pub mod Held
+pub mod Laws

@@ -1,0 +1,157 @@
+//! The code check (20) and the run's other refusals, both sides of each limit.
+
+mod common;
+use common::*;
+use reference::rows::passes;
+use reference::steps::{run, Entry, Lent};
+
+/// The words of a row.
+fn row(kind: u32, first: u32, second: u32) -> Vec<u32> {
+    let mut words = vec![kind, first, second];
+    words.resize(12, 0);
+    words
+}
+
+/// Code of n rows: `middle` as row 3, Begin elsewhere, `last` at the end.
+fn code(n: u32, g: u32, middle: Vec<u32>, last: Vec<u32>) -> Vec<u32> {
+    let mut words = vec![n, g];
+    words.resize(12, 0);
+    for number in 0..n {
+        words.extend(match number {
+            3 => middle.clone(),
+            number if number + 1 == n => last.clone(),
+            _ => row(8, 0, 0),
+        });
+    }
+    words
+}
+
+/// Code of 8 rows and 2 groups with this row in it.
+fn with(kind: u32, first: u32, second: u32) -> bool {
+    passes(&code(8, 2, row(kind, first, second), row(1, 0, 0)))
+}
+
+/// Code of 8 rows with this row at its end.
+fn ending(kind: u32) -> bool {
+    passes(&code(8, 2, row(8, 0, 0), row(kind, 1, 0)))
+}
+
+#[test]
+fn kinds_and_operands() {
+    const ANY: u32 = u32::MAX;
+    assert!(!with(0, 0, 0) && !with(11, 0, 0) && !with(ANY, 0, 0));
+    assert!(with(1, ANY, ANY));
+    assert!(with(2, ANY, ANY));
+    assert!(with(3, 7, ANY) && !with(3, 8, 0) && !with(3, ANY, 0));
+    assert!(with(4, 7, 7) && !with(4, 8, 0) && !with(4, 0, 8));
+    assert!(with(5, 0, ANY) && with(5, 2, ANY) && !with(5, 3, 0));
+    assert!(with(6, 0, ANY) && with(6, 2, ANY) && !with(6, 3, 0));
+    assert!(with(7, 1, 0) && with(7, 1, 1) && with(7, 1, 2) && with(7, 2, 2));
+    assert!(!with(7, 0, 0) && !with(7, 0, 1) && !with(7, 2, 1) && !with(7, 1, 3));
+    assert!(!with(7, 2, 0) && !with(7, 3, 2) && !with(7, 3, 3));
+    assert!(with(8, ANY, ANY));
+    assert!(with(9, 7, ANY) && !with(9, 8, 0));
+    assert!(with(10, 0, ANY) && with(10, 3, ANY) && !with(10, 4, 0));
+}
+
+#[test]
+fn the_last_row() {
+    let may_be_last: Vec<u32> = (0..=11).filter(|&kind| ending(kind)).collect();
+    assert_eq!(may_be_last, [1, 3, 4, 9]);
+}
+
+#[test]
+fn header_and_length() {
+    let accept = || row(1, 0, 0);
+    let begin = || row(8, 0, 0);
+    assert!(!passes(&[]) && !passes(&[8]) && !passes(&[8, 0]));
+    assert!(!passes(&code(7, 0, begin(), accept())));
+    assert!(passes(&code(8, 0, begin(), accept())));
+    assert!(passes(&code(1_024, 0, begin(), accept())));
+    assert!(!passes(&code(1_025, 0, begin(), accept())));
+    assert!(passes(&code(8, 15, begin(), accept())));
+    assert!(!passes(&code(8, 16, begin(), accept())));
+    let mut whole = code(8, 0, begin(), accept());
+    assert_eq!(whole.len(), 108);
+    assert!(!passes(&whole[..107]));
+    whole.push(99);
+    assert!(passes(&whole));
+    for huge in [u32::MAX, 0x8000_0008, 0x1555_5555] {
+        whole[0] = huge;
+        assert!(!passes(&whole));
+    }
+}
+
+#[test]
+fn unused_words_are_unread() {
+    let mut words = code(8, 0, row(8, 0, 0), row(1, 0, 0));
+    words[2..12].fill(5);
+    for number in 0..8 {
+        words[12 * (number + 1) + 1..12 * (number + 2)].fill(u32::MAX);
+    }
+    assert!(passes(&words));
+}
+
+#[test]
+fn refusals_in_order() {
+    let code = program("(a)").words();
+    let (registers, workspace) = (4, 16 * 11 * 3);
+    let long = vec![b'b'; 1_048_577];
+    let number = |code: &[u32], text: &[u8], start, registers, workspace| {
+        let lent = Lent { registers, workspace };
+        let refusal = run(code, text, start, lent, Entry::Search).err();
+        refusal.map_or(0, |refusal| {
+            assert_eq!(refusal.place, 0);
+            refusal.number
+        })
+    };
+    assert_eq!(number(&code[1..], &long, 1_048_578, 0, 0), 20);
+    assert_eq!(number(&code, &long, 1_048_578, 0, 0), 21);
+    assert_eq!(number(&code, &long[1..], 1_048_577, 0, 0), 22);
+    assert_eq!(number(&code, &long[1..], 1_048_576, 0, 0), 23);
+    assert_eq!(number(&code, b"", 0, registers - 1, 0), 23);
+    assert_eq!(number(&code, b"", 0, registers, 0), 24);
+    assert_eq!(number(&code, b"", 0, registers, workspace - 1), 24);
+    assert_eq!(number(&code, b"", 0, registers, workspace), 0);
+    assert_eq!(number(&code, b"", 1, registers, workspace), 22);
+}
+
+#[test]
+fn the_longest_text() {
+    let mut text = vec![b'b'; 1_048_576];
+    text[1_048_575] = b'a';
+    let spans = |pattern: &str, start| {
+        let program = program(pattern);
+        let lent = Lent { registers: 32, workspace: 16 * 1_024 * 17 };
+        run(&program.words(), &text, start, lent, Entry::Search).unwrap().spans
+    };
+    assert_eq!(spans("(a)$", 0), Some(vec![1_048_575, 1_048_576, 1_048_575, 1_048_576]));
+    assert_eq!(spans("$", 1_048_576), Some(vec![1_048_576, 1_048_576]));
+    assert_eq!(spans("b*", 0), Some(vec![0, 1_048_575]));
+}
+
+#[test]
+fn other_passed_code_obeys_the_steps() {
+    let lent = Lent { registers: 32, workspace: 16 * 8 * 17 };
+    let answer = |code: &[u32], entry| {
+        let answer = run(code, b"ab", 1, lent, entry).unwrap();
+        (answer.spans, answer.count)
+    };
+    // Begins, then Accept: no register is written.
+    let begins = code(8, 1, row(8, 0, 0), row(1, 0, 0));
+    assert_eq!(answer(&begins, Entry::Search), (Some(vec![-1; 4]), 8));
+    assert_eq!(answer(&begins, Entry::MatchAt), (Some(vec![-1; 4]), 3));
+    // Row 3 jumps to itself: executed with the flag cleared, then dropped.
+    let circle = code(8, 0, row(3, 3, 0), row(1, 0, 0));
+    assert_eq!(answer(&circle, Entry::Search), (None, 4));
+    // An Open without a Close leaves the end as it was.
+    let opened = code(8, 1, row(5, 1, 0), row(1, 0, 0));
+    assert_eq!(answer(&opened, Entry::Search), (Some(vec![-1, -1, 1, -1]), 8));
+    // The last row jumps back to row 0: rows 1 to 7 have run with the flag
+    // cleared, row 0 with both.
+    let back = code(8, 0, row(8, 0, 0), row(3, 0, 0));
+    assert_eq!(answer(&back, Entry::Search), (None, 9));
+    // The same with End: the flag is cleared, so it does not go on.
+    let ended = code(8, 0, row(8, 0, 0), row(9, 0, 0));
+    assert_eq!(answer(&ended, Entry::Search), (None, 8));
+}
