@@ -1,2 +1,4 @@
 pub mod Compiling
 pub mod Laws
+pub mod Lines
+mod Examples

@@ -175,9 +175,11 @@ readings =
     ∷ []
 
 refusals-hold : all refusals ≡ true
-unfolding reading alternativesGo sequenceGo itemAt itemBy openingAt quantifierAt bracesAt numberAt numberGo classAt classGo classAtom escapeAt parts isDigit isWord isSpace isDot
+unfolding reading alternativesGo sequenceGo itemAt itemBy openingAt quantifierAt bracesAt numberAt numberGo classAt
+    classGo classAtom escapeAt parts isDigit isWord isSpace isDot
 refusals-hold = refl
 
 readings-hold : all readings ≡ true
-unfolding reading alternativesGo sequenceGo itemAt itemBy openingAt quantifierAt bracesAt numberAt numberGo classAt classGo classAtom escapeAt parts isDigit isWord isSpace isDot
+unfolding reading alternativesGo sequenceGo itemAt itemBy openingAt quantifierAt bracesAt numberAt numberGo classAt
+    classGo classAtom escapeAt parts isDigit isWord isSpace isDot
 readings-hold = refl
