@@ -131,6 +131,10 @@ refusals =
     ∷ bad "a}" 12 1
     ∷ bad "}" 12 0
     ∷ bad "(])" 12 1
+    ∷ bad "(?:(?:(?:(?:(?:(?:(?:(?:(?:(?:(?:(?:(?:(?:(?:(?:(?:(?:(?:(?:(?:(?:(?:(?:(?:(?:(?:(?:(?:(?:(?:(?:(?:" 13 96
+    ∷ bad "(?:(?:(?:(?:(?:(?:(?:(?:(?:(?:(?:(?:(?:(?:(?:(?:(?:(?:(?:(?:(?:(?:(?:(?:(?:(?:(?:(?:(?:(?:(?:(?:(" 13 96
+    ∷ bad "(?:(?:(?:(?:(?:(?:(?:(?:(?:(?:(?:(?:(?:(?:(?:(?:(?:(?:(?:(?:(?:(?:(?:(?:(?:(?:(?:(?:(?:(?:(?:(?:(?=" 5 96
+    ∷ bad "()()()()()()()()()()()()()()()()" 14 30
     ∷ []
 
 -- Readings that succeed: a pattern and its number of groups.
@@ -172,6 +176,8 @@ readings =
     ∷ fine "\\cj\\cJ\\x7F\\f\\n\\r\\t\\v\\.\\-\\/" 0
     ∷ fine "\\d\\D\\w\\W\\s\\S" 0
     ∷ fine "-,:=!<>\"'~" 0
+    ∷ fine "()()()()()()()()()()()()()()()" 15
+    ∷ fine "((((((((((((((((?:(?:(?:(?:(?:(?:(?:(?:(?:(?:(?:(?:(?:(?:(?:(?:(?:a))))))))))))))))))))))))))))))))" 15
     ∷ []
 
 refusals-hold : all refusals ≡ true
@@ -183,3 +189,11 @@ readings-hold : all readings ≡ true
 unfolding reading alternativesGo sequenceGo itemAt itemBy openingAt quantifierAt bracesAt numberAt numberGo classAt
     classGo classAtom escapeAt parts isDigit isWord isSpace isDot
 readings-hold = refl
+
+-- The checks that come first, on both sides: 2,048 and 2,049 bytes, 32(p+1) words and one fewer, bytes up to 7F and above.
+first-checks : (reading (replicate 2049 0x80) 0 ≡ refused 1 0) × (reading (replicate 2048 0x80) 65567 ≡ refused 2 0)
+    × (reading (replicate 2048 0x80) 65568 ≡ refused 3 0) × (reading (bytes "ab") 95 ≡ refused 2 0)
+    × (says (reading (bytes "ab") 96) 0 0 ≡ true) × (reading (0x61 ∷ 0x7F ∷ 0x80 ∷ []) 128 ≡ refused 3 2)
+    × (reading (0xFF ∷ []) 64 ≡ refused 3 0) × (says (reading (0x7F ∷ []) 64) 0 0 ≡ true)
+unfolding reading alternativesGo sequenceGo itemAt itemBy openingAt quantifierAt parts
+first-checks = (refl, refl, refl, refl, refl, refl, refl, refl)
