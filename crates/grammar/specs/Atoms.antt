@@ -4,13 +4,12 @@
 use mathlib.Core.Path.{_≡_}
 use mathlib.Core.Bool.{Bool, true, false}
 use mathlib.Core.Option.{Option, none, some}
-use mathlib.Core.List.{List, [], _∷_}
+use mathlib.Core.List.{List}
 use Prim.Native.Nat.{ℕ, _+_, _-_, _*_, _%_, _≤_}
 use Rattle.sets.specs.Sets.{setOf, between, isDigit, isWord, inEscape}
 use Rattle.meaning.specs.Limits.{countLimit}
 use Rattle.atoms.specs.Chars.{noByte, byteAt, caret, backslash, star, plus, question, openBrace, closeBrace, openBracket}
-use Rattle.atoms.specs.Chars.{closeBracket}
-use Rattle.atoms.specs.Chars.{comma, hyphen, isLetter, isHex, hexValue}
+use Rattle.atoms.specs.Chars.{closeBracket, comma, hyphen, isLetter, isHex, hexValue}
 use Rattle.atoms.specs.Classes.{added, takes, classSet}
 
 -- A byte stands at a place.

@@ -1,20 +1,14 @@
 -- What the readers of escapes, classes and quantifiers read derives.
-use mathlib.Core.Path.{_≡_, refl, sym, ap, subst, _∙_}
+use mathlib.Core.Path.{_≡_, refl, sym, ap, _∙_}
 use mathlib.Core.Bool.{Bool, true, false, cond, not, _||_, _&&_, false≢true}
 use mathlib.Core.Logic.{_⊎_, inl, inr}
-use mathlib.Core.Option.{Option, none, some}
-use mathlib.Core.List.{List, [], _∷_}
-use Prim.Native.Nat.{ℕ, zero, suc, _+_, _-_, _*_, _%_, _≤_, _<_}
-use native.Mathlib.Omega.{arith}
-use lib.Dec.{eqb, leb, ltb}
-use lib.ListN.{length}
-use borrow.Author.Tests.{eqb-true, eqb-false, ltb-false, leb-true, eq-eqb}
-use Rattle.sets.specs.Sets.{setOf, between, isDigit, isWord, inEscape}
-use Rattle.meaning.specs.Limits.{countLimit}
+use mathlib.Core.List.{List}
+use Prim.Native.Nat.{ℕ, _+_, _-_}
+use lib.Dec.{eqb}
+use borrow.Author.Tests.{eqb-true, eqb-false, ne-eqb}
+use Rattle.sets.specs.Sets.{isDigit, isWord}
 use Rattle.meaning.specs.Tests.{and-true, by-test}
-use Rattle.atoms.specs.Chars.{noByte, byteAt, choose, caret, backslash, star, plus, question, openBrace, closeBrace}
-use Rattle.atoms.specs.Chars.{openBracket, closeBracket}
-use Rattle.atoms.specs.Chars.{comma, hyphen, isLetter, isHex, hexValue}
+use Rattle.atoms.specs.Chars.{noByte, byteAt, backslash, isLetter, isHex}
 use Rattle.atoms.specs.Escapes.{Escape, Escape.byte, Escape.named, Escape.assertion, Escape.wrong, control, setNumber}
 use Rattle.atoms.specs.Escapes.{letterEscape, hexEscape, zeroEscape, escapeAt}
 use Rattle.grammar.specs.Atoms.{Is, Control, Named, EscapedByte, EscapedSet}
@@ -24,6 +18,14 @@ use Rattle.grammar.specs.Refusals.{LeftOut}
 pub not-both : (p q : Bool) → (p || q) ≡ false → (p ≡ false) × (q ≡ false)
 not-both true q e = absurd (false≢true (sym e))
 not-both false q e = (refl, e)
+
+-- A byte that a test tells from another is not that byte.
+pub apart : (test : ℕ → Bool) (b c : ℕ) (x : Bool) → test b ≡ x → test c ≡ not x → eqb b c ≡ false
+apart test b c x e f = ne-eqb b c (λ p. differ x (sym e ∙ ap test p ∙ f))
+  where
+    differ : (x : Bool) → x ≡ not x → ⊥
+    differ true h = false≢true (sym h)
+    differ false h = false≢true h
 
 -- The letters of set escapes and of control escapes.
 named-of : (b : ℕ) → eqb (setNumber b) 6 ≡ false → Named b (setNumber b)

@@ -1,37 +1,29 @@
 -- What derives as a class is read so.
-use mathlib.Core.Path.{_≡_, refl, sym, ap, subst, _∙_}
-use mathlib.Core.Logic.{_⊎_, inl, inr}
-use mathlib.Core.Bool.{Bool, true, false, cond, not, _||_, _&&_, false≢true}
-use mathlib.Core.Option.{Option, none, some}
-use mathlib.Core.List.{List, [], _∷_}
-use Prim.Native.Nat.{ℕ, zero, suc, _+_, _-_, _*_, _%_, _≤_, _<_}
+use mathlib.Core.Path.{_≡_, refl, sym, _∙_}
+use mathlib.Core.Bool.{Bool, true, false}
+use mathlib.Core.List.{List}
+use Prim.Native.Nat.{ℕ, zero, suc, _+_, _-_, _≤_, _<_}
 use native.Mathlib.Omega.{arith}
-use lib.Dec.{eqb, leb, ltb}
 use lib.ListN.{length}
-use borrow.Author.Tests.{eqb-true, eqb-false, eq-eqb, ne-eqb, le-leb, le-ltb}
-use Rattle.sets.specs.Sets.{setOf, between, isDigit, isWord, inEscape}
-use Rattle.meaning.specs.Limits.{countLimit}
-use Rattle.atoms.specs.Chars.{noByte, byteAt, choose, caret, backslash, star, plus, question, openBrace, closeBrace}
-use Rattle.atoms.specs.Chars.{openBracket, closeBracket}
-use Rattle.atoms.specs.Chars.{comma, hyphen, isLetter, isHex, hexValue}
-use Rattle.atoms.specs.Escapes.{Escape, Escape.byte, Escape.named, Escape.assertion, Escape.wrong, escapeAt}
-use Rattle.atoms.specs.Classes.{ClassAtom, ClassAtom.one, ClassAtom.several, ClassAtom.bad, escaped as escapedAtom, classAtom}
-use Rattle.atoms.specs.Classes.{Class, Class.holds, Class.broken}
-use Rattle.atoms.specs.Classes.{added, takes, beginsRange, classItem, classSet, further, classGo, classAt}
-use Rattle.grammar.specs.Atoms.{Is, EscapedSet, EscapedSet.named, ByteAtom, ByteAtom.plain, ByteAtom.escaped, Dash}
-use Rattle.grammar.specs.Atoms.{ClassItems, ClassItems.nothing, ClassItems.single, ClassItems.several, ClassItems.range}
+use borrow.Author.Tests.{eq-eqb, ne-eqb, le-leb}
+use Rattle.sets.specs.Sets.{setOf, between, inEscape}
+use Rattle.atoms.specs.Chars.{noByte, byteAt, caret, backslash, closeBracket}
+use Rattle.atoms.specs.Classes.{ClassAtom.one, ClassAtom.several, classAtom, Class, Class.holds, added, takes, beginsRange}
+use Rattle.atoms.specs.Classes.{classItem, classSet, classGo, classAt}
+use Rattle.grammar.specs.Atoms.{Is, EscapedSet, ByteAtom, ByteAtom.plain, ByteAtom.escaped, Dash, ClassItems}
+use Rattle.grammar.specs.Atoms.{ClassItems.nothing, ClassItems.single, ClassItems.several, ClassItems.range}
 use Rattle.grammar.specs.EscapesComplete.{escaped-at, byte-complete, set-complete}
 use Rattle.grammar.specs.Within.{atom-first, set-first}
 use Rattle.grammar.specs.ClassesSound.{dash, no-dash}
 use Rattle.grammar.specs.Atoms as grammar
 
 module _ (s : List ℕ) where
-  byte-atom : {a c v : ℕ} → ByteAtom s a c v → classAtom s a ≡ one v c
+  pub byte-atom : {a c v : ℕ} → ByteAtom s a c v → classAtom s a ≡ one v c
   unfolding classAtom
   byte-atom (plain {b = b} h n k c) = rw (h, ne-eqb b backslash k)
   byte-atom (escaped {a = a} t) = rw (eq-eqb (byteAt s a) backslash (escaped-at t .0), byte-complete true s t)
 
-  set-atom : {a k : ℕ} → EscapedSet s a k → classAtom s a ≡ several k (a + 2)
+  pub set-atom : {a k : ℕ} → EscapedSet s a k → classAtom s a ≡ several k (a + 2)
   unfolding classAtom
   set-atom {a} t = rw (eq-eqb (byteAt s a) backslash (set-first s t), set-complete true s t)
 
@@ -42,7 +34,7 @@ module _ (s : List ℕ) where
       go true h = absurd (f (dash s e h))
       go false h = refl
 
-  begins : (e : ℕ) → Dash s e → beginsRange s e ≡ true
+  pub begins : (e : ℕ) → Dash s e → beginsRange s e ≡ true
   begins e d = go (beginsRange s e) refl
     where
       go : (t : Bool) → beginsRange s e ≡ t → t ≡ true
@@ -50,10 +42,10 @@ module _ (s : List ℕ) where
       go false h = absurd (no-dash s e h d)
 
   -- The class reader, from its beginning on, comes to where the items end, with fuel left.
-  record Comes (negated : Bool) (a0 fuel b : ℕ) (set : List ℕ) : Type 0 where
-    left : ℕ
-    same : classGo s negated fuel (setOf (λ x. false)) a0 ≡ classGo s negated left set b
-    enough : a0 + fuel ≤ b + left
+  pub record Comes (negated : Bool) (a0 fuel b : ℕ) (set : List ℕ) : Type 0 where
+    pub left : ℕ
+    pub same : classGo s negated fuel (setOf (λ x. false)) a0 ≡ classGo s negated left set b
+    pub enough : a0 + fuel ≤ b + left
 
   step : (negated : Bool) (a0 fuel b c : ℕ) (set set′ : List ℕ) (h : Comes negated a0 fuel b set) → b < c → c ≤ a0 + fuel
       → (byteAt s b ≡ noByte → ⊥) → (byteAt s b ≡ closeBracket → ⊥) → classItem s set b (classAtom s b) ≡ holds set′ c
@@ -70,7 +62,7 @@ module _ (s : List ℕ) where
         enough = omega arith;
       }
 
-  items-complete : {a0 b : ℕ} {set : List ℕ} → ClassItems s a0 b set → (negated : Bool) (fuel : ℕ) → b ≤ a0 + fuel
+  pub items-complete : {a0 b : ℕ} {set : List ℕ} → ClassItems s a0 b set → (negated : Bool) (fuel : ℕ) → b ≤ a0 + fuel
       → Comes negated a0 fuel b set
   items-complete nothing negated fuel h = record { left = fuel; same = refl; enough = omega arith }
   items-complete (single {a = a0} {b = b} {c = c} {v = v} {set = set} t x d) negated fuel h =
@@ -112,7 +104,7 @@ module _ (s : List ℕ) where
       rw (eq-eqb (byteAt s (a + 1)) caret n) (close-complete true (a + 2) b set t c (omega arith))
 
   -- How far the items of a class go.
-  items-on : {a b : ℕ} {set : List ℕ} → ClassItems s a b set → a ≤ b
+  pub items-on : {a b : ℕ} {set : List ℕ} → ClassItems s a b set → a ≤ b
   items-on nothing = omega arith
   items-on (single t x d) = omega (arith, items-on t, atom-first s x .2)
   items-on (several t x d) = omega (arith, items-on t)

@@ -1,27 +1,23 @@
 -- What the reader of classes reads derives.
-use mathlib.Core.Path.{_≡_, refl, sym, ap, subst, _∙_}
-use mathlib.Core.Logic.{_⊎_, inl, inr}
-use mathlib.Core.Bool.{Bool, true, false, cond, not, _||_, _&&_, false≢true}
-use mathlib.Core.Option.{Option, none, some}
-use mathlib.Core.List.{List, [], _∷_}
-use Prim.Native.Nat.{ℕ, zero, suc, _+_, _-_, _*_, _≤_, _<_}
+use mathlib.Core.Path.{_≡_, refl, sym, subst, _∙_}
+use mathlib.Core.Bool.{Bool, true, false, cond, not, _&&_, false≢true}
+use mathlib.Core.Option.{none}
+use mathlib.Core.List.{List}
+use Prim.Native.Nat.{ℕ, zero, suc, _+_, _-_, _≤_, _<_}
 use native.Mathlib.Omega.{arith}
-use lib.Dec.{eqb, leb, ltb}
+use lib.Dec.{eqb, leb}
 use lib.ListN.{length, getD}
-use borrow.Author.Tests.{eqb-true, eqb-false, ltb-false, leb-true, leb-false, not-true, eq-eqb, ne-eqb}
-use Rattle.sets.specs.Sets.{setOf, between, isDigit, inEscape}
-use Rattle.meaning.specs.Limits.{countLimit}
+use borrow.Author.Tests.{eqb-true, eqb-false, leb-true, leb-false, not-true, eq-eqb, ne-eqb}
+use Rattle.sets.specs.Sets.{setOf, inEscape}
 use Rattle.meaning.specs.Tests.{and-true, by-test}
-use Rattle.atoms.specs.Chars.{noByte, byteAt, choose, caret, backslash, star, plus, question, openBrace, closeBrace}
-use Rattle.atoms.specs.Chars.{openBracket, closeBracket}
-use Rattle.atoms.specs.Chars.{comma, hyphen}
+use Rattle.atoms.specs.Chars.{noByte, byteAt, choose, caret, backslash, openBracket, closeBracket, hyphen}
 use Rattle.atoms.specs.Escapes.{Escape, Escape.byte, Escape.named, Escape.assertion, Escape.wrong, escapeAt}
 use Rattle.atoms.specs.Classes.{ClassAtom, ClassAtom.one, ClassAtom.several, ClassAtom.bad, escaped, classAtom, Class}
-use Rattle.atoms.specs.Classes.{Class.holds, Class.broken}
-use Rattle.atoms.specs.Classes.{added, takes, ranged, beginsRange, classItem, classSet, further, classGo, classAt}
+use Rattle.atoms.specs.Classes.{Class.holds, Class.broken, added, ranged, beginsRange, classItem, classSet, further, classGo}
+use Rattle.atoms.specs.Classes.{classAt}
 use Rattle.grammar.specs.Atoms.{Is, EscapedSet, ByteAtom, Dash, ClassItems}
 use Rattle.grammar.specs.Atoms as grammar
-use Rattle.grammar.specs.AtomsSound.{Means, escape-sound, not-both}
+use Rattle.grammar.specs.AtomsSound.{Means, escape-sound}
 use Rattle.grammar.specs.WrongEscapes.{wrong-escape}
 use Rattle.grammar.specs.Within.{items-within, opens-within, atom-first, at-end}
 use Rattle.grammar.specs.Refusals.{Due, ClassOpens, ClassDue, End, BadRange, WrongEscape, Refuses}

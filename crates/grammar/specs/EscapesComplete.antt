@@ -1,33 +1,21 @@
 -- What derives as an escape is read so.
-use mathlib.Core.Path.{_≡_, refl, sym, ap, subst, _∙_}
-use mathlib.Core.Logic.{_⊎_, inl, inr}
-use mathlib.Core.Bool.{Bool, true, false, cond, not, _||_, _&&_, false≢true}
-use mathlib.Core.Option.{Option, none, some}
-use mathlib.Core.List.{List, [], _∷_}
-use Prim.Native.Nat.{ℕ, zero, suc, _+_, _-_, _*_, _%_, _≤_, _<_}
+use mathlib.Core.Path.{_≡_, refl}
+use mathlib.Core.Bool.{Bool, false, _||_}
+use mathlib.Core.List.{List}
+use Prim.Native.Nat.{ℕ, _+_, _-_, _<_}
 use native.Mathlib.Omega.{arith}
-use lib.Dec.{eqb, leb, ltb}
-use lib.ListN.{length}
-use borrow.Author.Tests.{eqb-true, eqb-false, eq-eqb, ne-eqb, le-leb, le-ltb}
-use Rattle.sets.specs.Sets.{setOf, between, isDigit, isWord, inEscape}
-use Rattle.meaning.specs.Limits.{countLimit}
-use Rattle.atoms.specs.Chars.{noByte, byteAt, choose, caret, backslash, star, plus, question, openBrace, closeBrace}
-use Rattle.atoms.specs.Chars.{openBracket, closeBracket}
-use Rattle.atoms.specs.Chars.{comma, hyphen, isLetter, isHex, hexValue}
-use Rattle.atoms.specs.Escapes.{Escape, Escape.byte, Escape.named, Escape.assertion, Escape.wrong, escapeAt}
+use lib.Dec.{eqb}
+use borrow.Author.Tests.{ne-eqb}
+use Rattle.sets.specs.Sets.{between, isDigit, isWord}
+use Rattle.atoms.specs.Chars.{noByte, backslash}
+use Rattle.atoms.specs.Escapes.{Escape.byte, Escape.named, escapeAt}
 use Rattle.grammar.specs.Atoms.{Is, Control, Control.feed, Control.newline, Control.return, Control.tab, Control.vertical}
-use Rattle.grammar.specs.Atoms.{Named, Named.digits, Named.noDigits, Named.words, Named.noWords, Named.spaces}
-use Rattle.grammar.specs.Atoms.{Named.noSpaces}
+use Rattle.grammar.specs.Atoms.{Named.digits, Named.noDigits, Named.words, Named.noWords, Named.spaces, Named.noSpaces}
 use Rattle.grammar.specs.Atoms.{EscapedByte, EscapedByte.control, EscapedByte.letter, EscapedByte.hex, EscapedByte.nul}
-use Rattle.grammar.specs.Atoms.{EscapedByte.backspace, EscapedByte.itself}
-use Rattle.grammar.specs.Atoms.{EscapedSet, EscapedSet.named}
-use Rattle.grammar.specs.AtomsSound.{not-both}
+use Rattle.grammar.specs.Atoms.{EscapedByte.backspace, EscapedByte.itself, EscapedSet, EscapedSet.named}
+use Rattle.grammar.specs.AtomsSound.{not-both, apart}
 
--- A byte that is no word byte is none of the letters and digits.
-apart : (b c : ℕ) → isWord b ≡ false → isWord c ≡ true → eqb b c ≡ false
-apart b c e f = ne-eqb b c (λ x. false≢true (sym e ∙ ap isWord x ∙ f))
-
--- So it is none of the letters and digits that an escape may begin with.
+-- A byte that is no word byte is none of the letters and digits that an escape may begin with.
 no-letter : (b : ℕ) → isWord b ≡ false
     → (eqb b 0x64 ≡ false) × (eqb b 0x44 ≡ false) × (eqb b 0x77 ≡ false) × (eqb b 0x57 ≡ false) × (eqb b 0x73 ≡ false) ×
     (eqb b 0x53 ≡ false) × (eqb b 0x66 ≡ false) × (eqb b 0x6E ≡ false) × (eqb b 0x72 ≡ false) × (eqb b 0x74 ≡ false) ×
@@ -35,24 +23,24 @@ no-letter : (b : ℕ) → isWord b ≡ false
     (eqb b 0x42 ≡ false) × (eqb b 0x75 ≡ false) × (eqb b 0x6B ≡ false)
 unfolding isWord isDigit
 no-letter b w = (
-  apart b 0x64 w refl,
-  apart b 0x44 w refl,
-  apart b 0x77 w refl,
-  apart b 0x57 w refl,
-  apart b 0x73 w refl,
-  apart b 0x53 w refl,
-  apart b 0x66 w refl,
-  apart b 0x6E w refl,
-  apart b 0x72 w refl,
-  apart b 0x74 w refl,
-  apart b 0x76 w refl,
-  apart b 0x63 w refl,
-  apart b 0x78 w refl,
-  apart b 0x30 w refl,
-  apart b 0x62 w refl,
-  apart b 0x42 w refl,
-  apart b 0x75 w refl,
-  apart b 0x6B w refl,
+  apart isWord b 0x64 false w refl,
+  apart isWord b 0x44 false w refl,
+  apart isWord b 0x77 false w refl,
+  apart isWord b 0x57 false w refl,
+  apart isWord b 0x73 false w refl,
+  apart isWord b 0x53 false w refl,
+  apart isWord b 0x66 false w refl,
+  apart isWord b 0x6E false w refl,
+  apart isWord b 0x72 false w refl,
+  apart isWord b 0x74 false w refl,
+  apart isWord b 0x76 false w refl,
+  apart isWord b 0x63 false w refl,
+  apart isWord b 0x78 false w refl,
+  apart isWord b 0x30 false w refl,
+  apart isWord b 0x62 false w refl,
+  apart isWord b 0x42 false w refl,
+  apart isWord b 0x75 false w refl,
+  apart isWord b 0x6B false w refl,
 )
 
 no-digit : (b : ℕ) → isWord b ≡ false → isDigit b ≡ false

@@ -1,15 +1,15 @@
 -- Places go forwards.
 use mathlib.Core.List.{List, [], _∷_}
-use Prim.Native.Nat.{ℕ, zero, suc, _+_, _≤_, _<_}
+use Prim.Native.Nat.{ℕ, _≤_, _<_}
 use native.Mathlib.Omega.{arith}
 use Rattle.meaning.specs.Node.{Node}
+use Rattle.grammar.specs.Refusals.{ClassOpens, ClassOpens.holding, ClassOpens.lacking}
 use Rattle.grammar.specs.EscapesComplete.{escaped-at}
 use Rattle.grammar.specs.ClassesComplete.{class-on}
 use Rattle.grammar.specs.CountsComplete.{quantified-on}
-use Rattle.grammar.specs.Grammar.{Assertion, Assertion.begins, Assertion.ends, Assertion.edge, Assertion.inner}
-use Rattle.grammar.specs.Grammar.{SetAtom, SetAtom.literal, SetAtom.dots, SetAtom.escape, SetAtom.named, SetAtom.class}
-use Rattle.grammar.specs.Grammar.{Sort, Sort.alternatives, Sort.sequence, Sort.item, Sort.atom, Rule, Rule.first}
-use Rattle.grammar.specs.Grammar.{Rule.next}
+use Rattle.grammar.specs.Grammar.{Assertion, Assertion.begins, Assertion.ends, Assertion.edge, Assertion.inner, SetAtom}
+use Rattle.grammar.specs.Grammar.{SetAtom.literal, SetAtom.dots, SetAtom.escape, SetAtom.named, SetAtom.class, Sort}
+use Rattle.grammar.specs.Grammar.{Sort.alternatives, Sort.sequence, Sort.item, Sort.atom, Rule, Rule.first, Rule.next}
 use Rattle.grammar.specs.Grammar.{Rule.nothing, Rule.more, Rule.assertion, Rule.once, Rule.repeated, Rule.bytes}
 use Rattle.grammar.specs.Grammar.{Rule.grouped, Rule.plain}
 
@@ -50,3 +50,7 @@ module _ (s : List ℕ) where
 
   pub sequence-on : {d a b g h : ℕ} {l : List Node} → Rule s sequence d a b g h l → a ≤ b
   sequence-on t = rule-on t
+
+  pub opens-on : {o a : ℕ} → ClassOpens s o a → o < a
+  opens-on (holding at n) = omega arith
+  opens-on (lacking at n) = omega arith

@@ -2,7 +2,7 @@
 -- how many parentheses may still be opened (13), groups are numbered by their opening parenthesis from g on, up to the limit
 -- (14); what is in a sequence, or an alternation, is flat. A rule for each line, no parser. Definitions only.
 use mathlib.Core.Path.{_≡_}
-use mathlib.Core.Bool.{Bool, true, false, _||_}
+use mathlib.Core.Bool.{Bool, false, _||_}
 use mathlib.Core.Option.{Option}
 use mathlib.Core.List.{List, [], _∷_, _++_}
 use Prim.Native.Nat.{ℕ, suc, _+_, _≤_, _<_}
@@ -13,8 +13,7 @@ use Rattle.meaning.specs.Limits.{patternLimit, depthLimit, groupLimit}
 use Rattle.meaning.specs.Node.{Node, Node.bset, Node.assert, Node.group, Node.many}
 use Rattle.meaning.specs.Flat.{Kind, parts, join}
 use Rattle.atoms.specs.Chars.{noByte, byteAt, caret, dollar, backslash, dot, question, openParen, closeParen, openBracket}
-use Rattle.atoms.specs.Chars.{closeBracket}
-use Rattle.atoms.specs.Chars.{closeBrace, bar, colon, isQuantifier}
+use Rattle.atoms.specs.Chars.{closeBracket, closeBrace, bar, colon, isQuantifier}
 use Rattle.items.specs.Reading.{literalSet, dotSet}
 use Rattle.grammar.specs.Atoms.{Is, Quantified, EscapedByte, EscapedSet, Class}
 

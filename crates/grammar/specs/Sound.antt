@@ -1,284 +1,34 @@
 -- Sound: what is read derives, and what is refused is so by the table's words.
-use mathlib.Core.Path.{_≡_, refl, sym, ap, subst, subst₂, _∙_}
+use mathlib.Core.Path.{_≡_, refl, subst}
 use mathlib.Core.Logic.{_⊎_, inl, inr}
-use mathlib.Core.Bool.{Bool, true, false, cond, _||_, _&&_, or-false, false≢true}
-use mathlib.Core.Option.{Option, none, some}
-use mathlib.Core.List.{List, [], _∷_, _++_}
-use Prim.Native.Nat.{ℕ, zero, suc, _+_, _≤_, _<_}
+use mathlib.Core.Bool.{Bool, true, false}
+use mathlib.Core.List.{List}
+use Prim.Native.Nat.{ℕ, _≤_, _<_}
 use native.Mathlib.Omega.{arith}
-use lib.Dec.{eqb, leb, ltb}
+use lib.Dec.{eqb, ltb}
 use lib.ListN.{length, getD}
-use borrow.Author.Tests.{eqb-true, eqb-false, leb-true, leb-false, ltb-true, ltb-false}
-use Rattle.sets.specs.Sets.{setOf, inEscape}
-use Rattle.meaning.specs.Limits.{patternLimit, tableWords, depthLimit, groupLimit}
+use borrow.Author.Tests.{eqb-true, ltb-true, ltb-false}
+use Rattle.meaning.specs.Limits.{patternLimit, depthLimit}
 use Rattle.meaning.specs.Tests.{by-test}
-use Rattle.meaning.specs.Node.{Node, Node.bset, Node.assert, Node.group, Node.many}
-use Rattle.meaning.specs.Flat.{Kind.sequence, Kind.alternation, parts, join}
-use Rattle.atoms.specs.Chars.{noByte, byteAt, choose, caret, dollar, backslash, dot, question, openParen, closeParen}
-use Rattle.atoms.specs.Chars.{openBracket}
-use Rattle.atoms.specs.Chars.{closeBracket, closeBrace, bar, colon, isQuantifier, endsSequence}
-use Rattle.atoms.specs.Escapes.{Escape, Escape.byte, Escape.named, Escape.assertion, Escape.wrong, escapeAt}
-use Rattle.atoms.specs.Classes.{Class, Class.holds, Class.broken, classAt}
-use Rattle.atoms.specs.Braces.{Quantifier, Quantifier.once, Quantifier.repeated, Quantifier.miscounted, quantifierAt}
-use Rattle.items.specs.Reading.{Part, Part.part, Part.turned, andThen, quantified, setItem, escapeItem, classPart, literalSet}
-use Rattle.items.specs.Reading.{dotSet}
-use Rattle.items.specs.Reading.{Opening, Opening.capturing, Opening.plain, Opening.neither, isLook, openingAt, tooDeep, closed}
-use Rattle.items.specs.Reading.{opened}
-use Rattle.items.specs.Reading.{itemBy, sequenceGo, alternativesGo, alternativesBy, itemAt, alternativesAt}
-use Rattle.items.specs.Reading.{Reading, Reading.pattern, Reading.refused, whole, firstHigh, highGo, reading}
-use Rattle.grammar.specs.Atoms.{Is}
-use Rattle.grammar.specs.AtomsSound.{Means, escape-sound, not-both}
-use Rattle.grammar.specs.ClassesSound.{by-choice, ClassMeans, class-sound}
-use Rattle.grammar.specs.CountsSound.{QuantifierMeans, quantifier-sound}
-use Rattle.grammar.specs.WrongEscapes.{wrong-escape}
-use Rattle.grammar.specs.Within.{due-within, at-end}
-use Rattle.grammar.specs.Forwards.{item-on, sequence-on}
-use Rattle.grammar.specs.Refusals.{Due, Due.start, Due.behind, Due.bars, Due.grouped, Due.plain, Refuses}
-use Rattle.grammar.specs.Grammar.{special, Assertion, SetAtom, Sort, Rule, Derives}
-
--- How deep parentheses may be where an item is due.
-due-deep : {s : List ℕ} {d a g : ℕ} → Due s d a g → d ≤ depthLimit
-due-deep start = omega arith
-due-deep (behind u t) = due-deep u
-due-deep (bars u c) = due-deep u
-due-deep (grouped u at n k) = omega (arith, due-deep u)
-due-deep (plain u at q c) = omega (arith, due-deep u)
-
-module _ (s : List ℕ) (low : (i : ℕ) → i < length s → getD s i 0 ≤ 0x7F) where
-  -- What holds of a part that was read, or why it was refused.
-  abbrev pub Told : (Node → ℕ → ℕ → Type 0) → Part → Type 0
-  Told P (part r b h) = P r b h
-  Told P (turned number place) = Refuses s number place
-
-  told-then : (P Q : Node → ℕ → ℕ → Type 0) (p : Part) (f : Node → ℕ → ℕ → Part)
-      → Told P p → ((r : Node) (b h : ℕ) → P r b h → Told Q (f r b h)) → Told Q (andThen p f)
-  told-then P Q (part r b h) f t k = k r b h t
-  told-then P Q (turned number place) f t k = t
-
-  told-choose : (P : Node → ℕ → ℕ → Type 0) (t : Bool) (x y : Unit {0} → Part)
-      → (t ≡ true → Told P (x tt)) → (t ≡ false → Told P (y tt)) → Told P (choose t x y)
-  told-choose P true x y h k = h refl
-  told-choose P false x y h k = k refl
-
-  -- An item that was read from a place on derives.
-  abbrev Items : ℕ → ℕ → ℕ → Node → ℕ → ℕ → Type 0
-  Items d a g r b h = Rule s Sort.item d a b g h (r ∷ [])
-
-  -- A sequence that was read derives, and ends where an item would be due; so do alternatives, where no bar follows.
-  pub record Sequences (d a g : ℕ) (r : Node) (b h : ℕ) : Type 0 where
-    pub list : List Node
-    pub rule : Rule s Sort.sequence d a b g h list
-    pub same : join sequence list ≡ r
-    pub due : Due s d b h
-    pub ends : endsSequence (byteAt s b) ≡ true
-
-  pub record All (d a g : ℕ) (r : Node) (b h : ℕ) : Type 0 where
-    pub list : List Node
-    pub rule : Rule s Sort.alternatives d a b g h list
-    pub same : join alternation list ≡ r
-    pub due : Due s d b h
-    pub ends : endsSequence (byteAt s b) ≡ true
-    pub last : eqb (byteAt s b) bar ≡ false
-
-  quantified-sound : (d a b g h : ℕ) (r : Node) → Due s d a g → Rule s Sort.atom d a b g h (r ∷ [])
-      → Told (Items d a g) (quantified (quantifierAt s b) r b h)
-  quantified-sound d a b g h r due t =
-      go (quantifierAt s b) (quantifier-sound s b (record { d = d; a = a; g = g; h = h; r = r; due = due; before = t }))
-    where
-      go : (q : Quantifier) → QuantifierMeans s b q → Told (Items d a g) (quantified q r b h)
-      go once m = Rule.once t m
-      go (repeated n e lazy c) m = Rule.repeated t m
-      go (miscounted number place) m = subst (Refuses s number) (sym (m .0)) (m .1)
-
-  set-sound : (d a b g : ℕ) (set : List ℕ) → Due s d a g → SetAtom s a b set → Told (Items d a g) (setItem s set b g)
-  set-sound d a b g set due t = quantified-sound d a b g g (bset set) due (Rule.bytes t)
-
-  escape-item : (d a g : ℕ) → Due s d a g → Is s a backslash → Told (Items d a g) (escapeItem s a g (escapeAt false s a))
-  escape-item d a g due at = go (escapeAt false s a) refl (escape-sound false s a at)
-    where
-      go : (x : Escape) → escapeAt false s a ≡ x → Means false s a x → Told (Items d a g) (escapeItem s a g x)
-      go (byte b end) e m = set-sound d a end g (literalSet b) due (SetAtom.escape m)
-      go (named k) e m = set-sound d a (a + 2) g (setOf (inEscape k)) due (SetAtom.named m)
-      go (assertion k) e (f, inl (p, h)) = Rule.assertion (subst (Assertion s a (a + 2)) (sym p) (Assertion.edge at h))
-      go (assertion k) e (f, inr (p, h)) = Rule.assertion (subst (Assertion s a (a + 2)) (sym p) (Assertion.inner at h))
-      go (wrong number) e m = Refuses.escape due (wrong-escape false s a at number e)
-
-  class-item : (d a g : ℕ) → Due s d a g → Is s a openBracket → Told (Items d a g) (classPart s g (classAt s a))
-  class-item d a g due at = go (classAt s a) (class-sound s low d a g due at)
-    where
-      go : (c : Class) → ClassMeans s a c → Told (Items d a g) (classPart s g c)
-      go (holds set end) m = set-sound d a end g set due (SetAtom.class m)
-      go (broken number place) m = m
-
-  strays : (a : ℕ) (x : Bool) → eqb (byteAt s a) closeBracket ≡ x → (x || eqb (byteAt s a) closeBrace) ≡ true
-      → Is s a closeBracket ⊎ Is s a closeBrace
-  strays a true e h = inl (eqb-true (byteAt s a) closeBracket e)
-  strays a false e h = inr (eqb-true (byteAt s a) closeBrace h)
-
-  item-by : (d a g : ℕ) (paren : Opening → Part) → Due s d a g → endsSequence (byteAt s a) ≡ false
-      → (Is s a openParen → Told (Items d a g) (paren (openingAt s a))) → Told (Items d a g) (itemBy paren s a g)
-  unfolding itemBy special
-  item-by d a g paren due more inside =
-      let b : ℕ = byteAt s a in
-      let P = Items d a g in
-      told-choose P (eqb b openParen) _ _ (λ e. inside (eqb-true b openParen e)) (λ e₁.
-      told-choose P (eqb b openBracket) _ _ (λ e. class-item d a g due (eqb-true b openBracket e)) (λ e₂.
-      told-choose P (eqb b backslash) _ _ (λ e. escape-item d a g due (eqb-true b backslash e)) (λ e₃.
-      told-choose P (eqb b dot) _ _ (λ e. set-sound d a (a + 1) g dotSet due (SetAtom.dots (eqb-true b dot e))) (λ e₄.
-      told-choose P (eqb b caret) _ _ (λ e. Rule.assertion (Assertion.begins (eqb-true b caret e))) (λ e₅.
-      told-choose P (eqb b dollar) _ _ (λ e. Rule.assertion (Assertion.ends (eqb-true b dollar e))) (λ e₆.
-      told-choose P (isQuantifier b) _ _ (λ e. Refuses.nothing due e) (λ e₇.
-      told-choose P (eqb b closeBracket || eqb b closeBrace) _ _ (λ e. Refuses.stray due (strays a (eqb b closeBracket) refl e))
-      (λ e₈.
-      let (n, c) = not-both (eqb b noByte || eqb b bar) (eqb b closeParen) more in
-      let (n′, v) = not-both (eqb b noByte) (eqb b bar) n in
-      let (x, y) = not-both (eqb b closeBracket) (eqb b closeBrace) e₈ in
-      set-sound d a (a + 1) g (literalSet b) due
-      (SetAtom.literal refl (λ z. eqb-false b noByte n′ z) (rw (e₅, e₆, e₃, e₄, e₇, e₁, c, e₂, x, y, v)))))))))))
-
-  module _ (d : ℕ) (item : ℕ → ℕ → Part)
-      (item-ok : (a g : ℕ) → Due s d a g → endsSequence (byteAt s a) ≡ false → Told (Items d a g) (item a g)) where
-    sequence-sound : (fuel : ℕ) (l : List Node) (a0 a g0 g : ℕ) → Rule s Sort.sequence d a0 a g0 g l → Due s d a g
-        → length s < a + fuel
-        → Told (Sequences d a0 g0) (sequenceGo s item fuel l a g)
-    unfolding sequenceGo
-    sequence-sound zero l a0 a g0 g t due k = absurd (omega (arith, due-within s due))
-    sequence-sound (suc fuel) l a0 a g0 g t due k =
-        told-choose (Sequences d a0 g0) (endsSequence (byteAt s a)) _ _
-        (λ e. record { list = l; rule = t; same = refl; due = due; ends = e }) (λ e.
-        told-then (Items d a g) (Sequences d a0 g0) (item a g) _ (item-ok a g due e)
-        (λ r b g′ i. let on : a < b = item-on s i in
-        sequence-sound fuel (l ++ parts sequence r) a0 b g0 g′ (Rule.more t i) (Due.behind due i) (omega arith)))
-
-    abbrev one : ℕ → ℕ → Part
-    one a g = sequenceGo s item (suc (length s)) [] a g
-
-    -- One more alternative: the first, or one behind a bar.
-    abbrev SoFar : ℕ → ℕ → List Node → ℕ → ℕ → Type 0
-    SoFar a0 g0 l a g = ((l ≡ []) × (a ≡ a0) × (g ≡ g0)) ⊎
-        ((b : ℕ) × Rule s Sort.alternatives d a0 b g0 g l × Is s b bar × (a ≡ b + 1))
-
-    joins : (a0 g0 : ℕ) (l : List Node) (a g : ℕ) (r : Node) (b h : ℕ) → SoFar a0 g0 l a g → Sequences d a g r b h
-        → Rule s Sort.alternatives d a0 b g0 h (l ++ parts alternation r)
-    joins a0 g0 l a g r b h (inl (e, p, q)) t = rw (e, ← t .same, ← p, ← q) (Rule.first (t .rule))
-    joins a0 g0 l a g r b h (inr (c, f, line, p)) t =
-        rw (← t .same) (Rule.next f line (subst (λ (x : ℕ). Rule s Sort.sequence d x b g h (t .list)) p (t .rule)))
-
-    alternatives-sound : (fuel : ℕ) (l : List Node) (a0 a g0 g : ℕ) → SoFar a0 g0 l a g → Due s d a g → length s < a + fuel
-        → Told (All d a0 g0) (alternativesGo s one fuel l a g)
-    unfolding alternativesGo
-    alternatives-sound zero l a0 a g0 g h due k = absurd (omega (arith, due-within s due))
-    alternatives-sound (suc fuel) l a0 a g0 g h due k =
-        told-then (Sequences d a g) (All d a0 g0) (one a g) _
-        (sequence-sound (suc (length s)) [] a a g g Rule.nothing due (omega arith))
-        (λ r b g′ t. let all : Rule s Sort.alternatives d a0 b g0 g′ (l ++ parts alternation r) = joins a0 g0 l a g r b g′ h t in
-        let on : a ≤ b = sequence-on s (t .rule) in
-        told-choose (All d a0 g0) (eqb (byteAt s b) bar) _ _
-        (λ e. let at : Is s b bar = eqb-true (byteAt s b) bar e in
-        alternatives-sound fuel (l ++ parts alternation r) a0 (b + 1) g0 g′ (inr (b, all, at, refl)) (Due.bars (t .due) at)
-        (omega arith))
-        (λ e. record { list = l ++ parts alternation r; rule = all; same = refl; due = t .due; ends = t .ends; last = e }))
-
-    alternatives-by : (a g : ℕ) → Due s d a g → Told (All d a g) (alternativesBy item s a g)
-    alternatives-by a g due = alternatives-sound (suc (length s)) [] a a g g (inl (refl, refl, refl)) due (omega arith)
-
-  -- Behind alternatives that neither a bar nor a ) follows, the pattern ends.
-  open-end : {d a g : ℕ} {r : Node} {b h : ℕ} → All d a g r b h → eqb (byteAt s b) closeParen ≡ false → b ≡ length s
-  open-end {b = b} t e = at-end s low b (eqb-true (byteAt s b) noByte (rw (t .last, e, or-false, or-false) at (t .ends)))
-      (due-within s (t .due))
-
-  -- What a `(` opens.
-  closed-sound : (d a b g h : ℕ) (r : Node) → Due s (suc d) a g
-      → (Is s b closeParen → Rule s Sort.atom (suc d) a (b + 1) g h (r ∷ []))
-      → (eqb (byteAt s b) closeParen ≡ false → Refuses s 11 b) → Told (Items (suc d) a g) (closed s r b h)
-  closed-sound d a b g h r due t f = go (eqb (byteAt s b) closeParen) refl
-    where
-      go : (x : Bool) → eqb (byteAt s b) closeParen ≡ x
-          → Told (Items (suc d) a g) (cond x (quantified (quantifierAt s (b + 1)) r (b + 1) h) (turned 11 b))
-      go true e = quantified-sound (suc d) a (b + 1) g h r due (t (eqb-true (byteAt s b) closeParen e))
-      go false e = f e
-
-  -- What an opening says of the bytes.
-  abbrev OpeningMeans : ℕ → Opening → Type 0
-  OpeningMeans a capturing = Is s (a + 1) question → ⊥
-  OpeningMeans a plain = Is s (a + 1) question × Is s (a + 2) colon
-  OpeningMeans a (neither number place) =
-      Is s (a + 1) question × (((number ≡ 5) × (place ≡ a) × (isLook (byteAt s (a + 2)) ≡ true))
-      ⊎ ((number ≡ 6) × (place ≡ a + 1) × (Is s (a + 2) colon → ⊥) × (isLook (byteAt s (a + 2)) ≡ false)))
-
-  opening-sound : (a : ℕ) → OpeningMeans a (openingAt s a)
-  unfolding openingAt
-  opening-sound a =
-      by-test (OpeningMeans a) (eqb (byteAt s (a + 1)) question)
-      (λ e. let q : Is s (a + 1) question = eqb-true (byteAt s (a + 1)) question e in
-      by-test (OpeningMeans a) (eqb (byteAt s (a + 2)) colon)
-      (λ f. (q, eqb-true (byteAt s (a + 2)) colon f))
-      (λ f. by-test (OpeningMeans a) (isLook (byteAt s (a + 2)))
-      (λ x. (q, inl (refl, refl, x)))
-      (λ x. (q, inr (refl, refl, (λ c. eqb-false (byteAt s (a + 2)) colon f c), x)))))
-      (λ e x. eqb-false (byteAt s (a + 1)) question e x)
-
-  opened-sound : (d : ℕ) (inside : ℕ → ℕ → Part) → ((a g : ℕ) → Due s d a g → Told (All d a g) (inside a g))
-      → (a g : ℕ) → Due s (suc d) a g → Is s a openParen → (o : Opening) → OpeningMeans a o
-      → Told (Items (suc d) a g) (opened s inside a g o)
-  opened-sound d inside ok a g due at capturing m =
-      told-choose (Items (suc d) a g) (leb groupLimit g) _ _ (λ e. Refuses.full due at m (leb-true groupLimit g e)) (λ e.
-      let few : g < groupLimit = leb-false groupLimit g e in
-      told-then (All d (a + 1) (g + 1)) (Items (suc d) a g) (inside (a + 1) (g + 1)) _
-      (ok (a + 1) (g + 1) (Due.grouped due at m few))
-      (λ r b h t. closed-sound d a b g h (group (g + 1) r) due (λ c. rw (← t .same) (Rule.grouped at m few (t .rule) c))
-      (λ f. Refuses.unclosed (t .due) (omega (arith, due-deep due)) (open-end t f))))
-  opened-sound d inside ok a g due at plain m =
-      told-then (All d (a + 3) g) (Items (suc d) a g) (inside (a + 3) g) _ (ok (a + 3) g (Due.plain due at (m .0) (m .1)))
-      (λ r b h t. closed-sound d a b g h r due (λ c. rw (← t .same) (Rule.plain at (m .0) (m .1) (t .rule) c))
-      (λ f. Refuses.unclosed (t .due) (omega (arith, due-deep due)) (open-end t f)))
-  opened-sound d inside ok a g due at (neither number place) (q, inl (n, p, l)) =
-      subst₂ (Refuses s) (sym n) (sym p) (Refuses.look due at q l)
-  opened-sound d inside ok a g due at (neither number place) (q, inr (n, p, c, l)) =
-      subst₂ (Refuses s) (sym n) (sym p) (Refuses.oddGroup due at q c l)
-
-  deep-sound : (a g : ℕ) → Due s zero a g → Is s a openParen → (o : Opening) → OpeningMeans a o
-      → Told (Items zero a g) (tooDeep a o)
-  deep-sound a g due at capturing m = Refuses.deep due at
-  deep-sound a g due at plain m = Refuses.deep due at
-  deep-sound a g due at (neither number place) m
-      = by-test (Told (Items zero a g)) (eqb place a) (λ e. here m (eqb-true place a e)) (λ e. Refuses.deep due at)
-    where
-      here : OpeningMeans a (neither number place) → place ≡ a → Refuses s number a
-      here (q, inl (n, p, l)) e = subst (λ (k : ℕ). Refuses s k a) (sym n) (Refuses.look due at q l)
-      here (q, inr (n, p, c, l)) e = absurd (omega arith)
-
-  item-sound : (d a g : ℕ) → Due s d a g → endsSequence (byteAt s a) ≡ false → Told (Items d a g) (itemAt d s a g)
-  unfolding itemAt
-  item-sound zero a g due more = item-by zero a g (tooDeep a) due more
-      (λ at. deep-sound a g due at (openingAt s a) (opening-sound a))
-  item-sound (suc d) a g due more =
-      item-by (suc d) a g (opened s (alternativesBy (itemAt d s) s) a g) due more
-      (λ at. opened-sound d (alternativesBy (itemAt d s) s) (alternatives-by d (itemAt d s) (item-sound d)) a g due at
-      (openingAt s a) (opening-sound a))
-
-  pub all-sound : Told (All depthLimit 0 0) (alternativesAt depthLimit s 0 0)
-  all-sound = alternatives-by depthLimit (itemAt depthLimit s) (item-sound depthLimit) 0 0 Due.start
-
--- The first byte above 7F, where there is none.
-low-bytes : (s : List ℕ) (at : ℕ) → at + length s ≤ highGo s at → (i : ℕ) → i < length s → getD s i 0 ≤ 0x7F
-low-bytes [] at h i k = absurd (omega arith)
-low-bytes (b ∷ s) at h zero k = by-test (λ x. at + suc (length s) ≤ x → b ≤ 0x7F) (ltb 0x7F b) (λ e f. absurd (omega arith))
-    (λ e f. ltb-false 0x7F b e) h
-low-bytes (b ∷ s) at h (suc i) k =
-    low-bytes s (at + 1) (by-test (λ x. at + suc (length s) ≤ x → at + 1 + length s ≤ highGo s (at + 1)) (ltb 0x7F b)
-    (λ e f. absurd (omega arith)) (λ e f. omega arith) h) i (omega arith)
+use Rattle.atoms.specs.Chars.{byteAt, closeParen}
+use Rattle.items.specs.Reading.{Part, Part.part, Part.turned, alternativesAt, Reading, Reading.pattern, Reading.refused, whole}
+use Rattle.items.specs.Reading.{reading}
+use Rattle.grammar.specs.Within.{due-within}
+use Rattle.grammar.specs.ItemsSound.{Told, All, open-end, all-sound}
+use Rattle.grammar.specs.Checked.{Checking, checked}
+use Rattle.grammar.specs.Refusals.{Checks, Refuses}
+use Rattle.grammar.specs.Grammar.{Sort, Rule, Derives}
 
 -- What is said of a whole pattern.
 module _ (s : List ℕ) where
   abbrev pub Judged : Reading → Type 0
   Judged (pattern r g) = Derives s r g
-  Judged (refused number place) = (number ≤ 3) ⊎ Refuses s number place
+  Judged (refused number place) = Refuses s number place
 
   whole-sound : length s ≤ patternLimit → (low : (i : ℕ) → i < length s → getD s i 0 ≤ 0x7F) (p : Part)
       → Told s low (All s low depthLimit 0 0) p
       → Judged (whole s p)
-  whole-sound short low (part r b h) t = by-test Judged (ltb b (length s)) (λ e. inr (left-over (ltb-true b (length s) e)))
+  whole-sound short low (part r b h) t = by-test Judged (ltb b (length s)) (λ e. left-over (ltb-true b (length s) e))
       (λ e. made (ltb-false b (length s) e))
     where
       all : All s low depthLimit 0 0 r b h
@@ -302,15 +52,24 @@ module _ (s : List ℕ) where
                 (λ (x : ℕ). Rule s Sort.alternatives depthLimit 0 x 0 h (all .list)) w (all .rule);
             tree = all .same;
           }
-  whole-sound short low (turned number place) t = inr t
+  whole-sound short low (turned number place) t = t
 
-  -- Sound: what is read derives, and a refusal from 4 on holds by its definition at its place.
-  pub sound : (table : ℕ) → Judged (reading s table)
-  unfolding reading
-  sound table =
-      by-choice Judged (ltb patternLimit (length s)) _ _ (λ e. inl (omega arith)) (λ e₁.
-      by-choice Judged (ltb table (tableWords (length s))) _ _ (λ e. inl (omega arith)) (λ e₂.
-      by-choice Judged (ltb (firstHigh s) (length s)) _ _ (λ e. inl (omega arith)) (λ e₃.
-      let low : (i : ℕ) → i < length s → getD s i 0 ≤ 0x7F
-      = low-bytes s 0 (omega (arith, ltb-false (firstHigh s) (length s) e₃)) in
-      whole-sound (ltb-false patternLimit (length s) e₁) low (alternativesAt depthLimit s 0 0) (all-sound s low))))
+  pub read-sound : length s ≤ patternLimit → ((i : ℕ) → i < length s → getD s i 0 ≤ 0x7F)
+      → Judged (whole s (alternativesAt depthLimit s 0 0))
+  read-sound short low = whole-sound short low (alternativesAt depthLimit s 0 0) (all-sound s low)
+
+  -- Sound: what is read derives, and what is refused is one of the checks or holds by its definition, at its place.
+  abbrev pub Sound : ℕ → Reading → Type 0
+  Sound table (pattern r g) = Derives s r g
+  Sound table (refused number place) = Checks s table number place ⊎ Refuses s number place
+
+  pub sound : (table : ℕ) → Sound table (reading s table)
+  sound table = go (checked s table)
+    where
+      either-way : (x : Reading) → Judged x → Sound table x
+      either-way (pattern r g) h = h
+      either-way (refused number place) h = inr h
+
+      go : Checking s table (reading s table) → Sound table (reading s table)
+      go (inl (n, p, h, e)) = rw e (inl (h .check))
+      go (inr (h, e)) = rw e (either-way (whole s (alternativesAt depthLimit s 0 0)) (read-sound (h .short) (h .low)))

@@ -1,5 +1,5 @@
 -- What derives lies inside the pattern.
-use mathlib.Core.Path.{_≡_, refl, sym, ap, subst, _∙_}
+use mathlib.Core.Path.{_≡_, refl, sym, subst, _∙_}
 use mathlib.Core.Bool.{Bool, true, false, false≢true}
 use mathlib.Core.Option.{Option}
 use mathlib.Core.List.{List, [], _∷_}
@@ -8,25 +8,23 @@ use native.Mathlib.Omega.{arith}
 use native.Mathlib.Decide.{decLt}
 use lib.ListN.{length, getD}
 use Rattle.sets.specs.Sets.{isDigit}
+use Rattle.meaning.specs.Limits.{depthLimit}
 use Rattle.meaning.specs.Node.{Node}
 use Rattle.atoms.specs.Chars.{noByte, byteAt, backslash, closeBracket, isLetter, isHex}
 use Rattle.items.specs.Facts.{byte-within}
-use Rattle.grammar.specs.Atoms.{Is, Digits, Counts, Counts.exactly, Counts.least, Counts.range, Times, Times.any}
-use Rattle.grammar.specs.Atoms.{Times.some-times, Times.maybe, Times.counted}
-use Rattle.grammar.specs.Atoms.{Quantified, Quantified.greedy, Quantified.lazy, Control, Control.feed, Control.newline}
-use Rattle.grammar.specs.Atoms.{Control.return, Control.tab, Control.vertical}
-use Rattle.grammar.specs.Atoms.{Named, Named.digits, Named.noDigits, Named.words, Named.noWords, Named.spaces}
-use Rattle.grammar.specs.Atoms.{Named.noSpaces}
-use Rattle.grammar.specs.Atoms.{EscapedByte, EscapedByte.control, EscapedByte.letter, EscapedByte.hex, EscapedByte.nul}
-use Rattle.grammar.specs.Atoms.{EscapedByte.backspace, EscapedByte.itself}
-use Rattle.grammar.specs.Atoms.{EscapedSet, EscapedSet.named, ByteAtom, ByteAtom.plain, ByteAtom.escaped}
-use Rattle.grammar.specs.Atoms.{ClassItems, ClassItems.nothing, ClassItems.single, ClassItems.several, ClassItems.range}
-use Rattle.grammar.specs.Atoms.{Class, Class.holding, Class.lacking}
-use Rattle.grammar.specs.Grammar.{Assertion, Assertion.begins, Assertion.ends, Assertion.edge, Assertion.inner}
-use Rattle.grammar.specs.Grammar.{SetAtom, SetAtom.literal, SetAtom.dots, SetAtom.escape, SetAtom.named, SetAtom.class}
-use Rattle.grammar.specs.Grammar.{Sort, Rule, Rule.first, Rule.next, Rule.nothing, Rule.more, Rule.assertion, Rule.once}
-use Rattle.grammar.specs.Grammar.{Rule.repeated}
-use Rattle.grammar.specs.Grammar.{Rule.bytes, Rule.grouped, Rule.plain}
+use Rattle.grammar.specs.Atoms.{Is, Counts, Counts.exactly, Counts.least, Counts.range, Times, Times.any}
+use Rattle.grammar.specs.Atoms.{Times.some-times, Times.maybe, Times.counted, Quantified, Quantified.greedy}
+use Rattle.grammar.specs.Atoms.{Quantified.lazy, Control, Control.feed, Control.newline, Control.return, Control.tab}
+use Rattle.grammar.specs.Atoms.{Control.vertical, Named, Named.digits, Named.noDigits, Named.words, Named.noWords}
+use Rattle.grammar.specs.Atoms.{Named.spaces, Named.noSpaces, EscapedByte, EscapedByte.control, EscapedByte.letter}
+use Rattle.grammar.specs.Atoms.{EscapedByte.hex, EscapedByte.nul, EscapedByte.backspace, EscapedByte.itself, EscapedSet}
+use Rattle.grammar.specs.Atoms.{EscapedSet.named, ByteAtom, ByteAtom.plain, ByteAtom.escaped, ClassItems}
+use Rattle.grammar.specs.Atoms.{ClassItems.nothing, ClassItems.single, ClassItems.several, ClassItems.range, Class}
+use Rattle.grammar.specs.Atoms.{Class.holding, Class.lacking}
+use Rattle.grammar.specs.Grammar.{Assertion, Assertion.begins, Assertion.ends, Assertion.edge, Assertion.inner, SetAtom}
+use Rattle.grammar.specs.Grammar.{SetAtom.literal, SetAtom.dots, SetAtom.escape, SetAtom.named, SetAtom.class, Sort, Rule}
+use Rattle.grammar.specs.Grammar.{Rule.first, Rule.next, Rule.nothing, Rule.more, Rule.assertion, Rule.once}
+use Rattle.grammar.specs.Grammar.{Rule.repeated, Rule.bytes, Rule.grouped, Rule.plain}
 use Rattle.grammar.specs.EscapesComplete.{escaped-at}
 use Rattle.grammar.specs.Refusals.{Due, Due.start, Due.behind, Due.bars, Due.grouped, Due.plain, ClassOpens}
 use Rattle.grammar.specs.Refusals.{ClassOpens.holding, ClassOpens.lacking}
@@ -145,6 +143,14 @@ module _ (s : List ℕ) where
   pub opens-within : {a b : ℕ} → ClassOpens s a b → b ≤ length s
   opens-within (holding {a = a} at n) = omega (arith, known a 0x5B at (λ x. omega arith))
   opens-within (lacking {a = a} at c) = omega (arith, known (a + 1) 0x5E c (λ x. omega arith))
+
+-- How deep parentheses may be where an item is due.
+pub due-deep : {s : List ℕ} {d a g : ℕ} → Due s d a g → d ≤ depthLimit
+due-deep start = omega arith
+due-deep (behind u t) = due-deep u
+due-deep (bars u c) = due-deep u
+due-deep (grouped u at n k) = omega (arith, due-deep u)
+due-deep (plain u at q c) = omega (arith, due-deep u)
 
 -- An element does not depend on what stands past the end.
 getD-any : (l : List ℕ) (i d e : ℕ) → i < length l → getD l i d ≡ getD l i e

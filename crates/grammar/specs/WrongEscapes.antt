@@ -1,26 +1,22 @@
 -- What is refused as an escape is neither listed nor one of 5, or is one of 5.
 use mathlib.Core.Path.{_≡_, refl, sym, ap, subst, _∙_}
 use mathlib.Core.Logic.{_⊎_, inl, inr}
-use mathlib.Core.Bool.{Bool, true, false, cond, _||_, or-true, false≢true}
+use mathlib.Core.Bool.{Bool, true, false, or-true}
 use mathlib.Core.List.{List}
-use Prim.Native.Nat.{ℕ, zero, suc, _+_}
+use Prim.Native.Nat.{ℕ, _+_}
 use native.Mathlib.Omega.{arith}
 use lib.Dec.{eqb}
-use borrow.Author.Tests.{eqb-true, ne-eqb}
+use borrow.Author.Tests.{ne-eqb}
 use Rattle.sets.specs.Sets.{isDigit}
 use Rattle.atoms.specs.Chars.{byteAt, backslash}
 use Rattle.atoms.specs.Escapes.{Escape, Escape.byte, Escape.named, Escape.assertion, Escape.wrong, escapeAt}
 use Rattle.grammar.specs.Atoms.{Is}
-use Rattle.grammar.specs.AtomsSound.{Means, escape-sound}
+use Rattle.grammar.specs.AtomsSound.{Means, escape-sound, apart}
 use Rattle.grammar.specs.EscapesComplete.{byte-complete, set-complete}
 use Rattle.grammar.specs.Refusals.{Listed, Listed.byte, Listed.set, Listed.edge, Listed.inner, LeftOut, LeftOut.unicode}
-use Rattle.grammar.specs.Refusals.{LeftOut.number, LeftOut.name}
-use Rattle.grammar.specs.Refusals.{WrongEscape}
+use Rattle.grammar.specs.Refusals.{LeftOut.number, LeftOut.name, WrongEscape}
 
 -- A digit is none of the letters that an escape may begin with.
-apart : (b c : ℕ) → isDigit b ≡ true → isDigit c ≡ false → eqb b c ≡ false
-apart b c e f = ne-eqb b c (λ x. false≢true (sym f ∙ sym (ap isDigit x) ∙ e))
-
 no-letter : (b : ℕ) → isDigit b ≡ true
     → (eqb b 0x64 ≡ false) × (eqb b 0x44 ≡ false) × (eqb b 0x77 ≡ false) × (eqb b 0x57 ≡ false) × (eqb b 0x73 ≡ false) ×
     (eqb b 0x53 ≡ false) × (eqb b 0x66 ≡ false) × (eqb b 0x6E ≡ false) × (eqb b 0x72 ≡ false) × (eqb b 0x74 ≡ false) ×
@@ -28,22 +24,22 @@ no-letter : (b : ℕ) → isDigit b ≡ true
     (eqb b 0x75 ≡ false)
 unfolding isDigit
 no-letter b w = (
-  apart b 0x64 w refl,
-  apart b 0x44 w refl,
-  apart b 0x77 w refl,
-  apart b 0x57 w refl,
-  apart b 0x73 w refl,
-  apart b 0x53 w refl,
-  apart b 0x66 w refl,
-  apart b 0x6E w refl,
-  apart b 0x72 w refl,
-  apart b 0x74 w refl,
-  apart b 0x76 w refl,
-  apart b 0x63 w refl,
-  apart b 0x78 w refl,
-  apart b 0x62 w refl,
-  apart b 0x42 w refl,
-  apart b 0x75 w refl,
+  apart isDigit b 0x64 true w refl,
+  apart isDigit b 0x44 true w refl,
+  apart isDigit b 0x77 true w refl,
+  apart isDigit b 0x57 true w refl,
+  apart isDigit b 0x73 true w refl,
+  apart isDigit b 0x53 true w refl,
+  apart isDigit b 0x66 true w refl,
+  apart isDigit b 0x6E true w refl,
+  apart isDigit b 0x72 true w refl,
+  apart isDigit b 0x74 true w refl,
+  apart isDigit b 0x76 true w refl,
+  apart isDigit b 0x63 true w refl,
+  apart isDigit b 0x78 true w refl,
+  apart isDigit b 0x62 true w refl,
+  apart isDigit b 0x42 true w refl,
+  apart isDigit b 0x75 true w refl,
 )
 
 module _ (inClass : Bool) (s : List ℕ) (a : ℕ) where
@@ -89,7 +85,7 @@ module _ (inClass : Bool) (s : List ℕ) (a : ℕ) where
       )
   left-read (name i h) = rw (h, i, or-true)
 
-  -- What is refused as an escape is so by the table's words.
+  -- What is refused as an escape is so by the table's words, and what is so by them is refused.
   pub wrong-escape : Is s a backslash → (n : ℕ) → escapeAt inClass s a ≡ wrong n → WrongEscape s inClass a n
   wrong-escape at n e = go (subst (Means inClass s a) e (escape-sound inClass s a at))
     where
@@ -97,3 +93,19 @@ module _ (inClass : Bool) (s : List ℕ) (a : ℕ) where
       go (inl p) = subst (WrongEscape s inClass a) (sym p) (WrongEscape.unknown at (λ l. listed-read l n e)
           (λ l. let q : wrong 5 ≡ wrong n = sym (left-read l) ∙ e in let z : 5 ≡ n = cc in omega arith))
       go (inr (p, l)) = subst (WrongEscape s inClass a) (sym p) (WrongEscape.leftOut at l)
+
+  pub wrong-first : {n : ℕ} → WrongEscape s inClass a n → Is s a backslash
+  wrong-first (WrongEscape.unknown at listed left) = at
+  wrong-first (WrongEscape.leftOut at l) = at
+
+  pub wrong-read : {n : ℕ} → WrongEscape s inClass a n → escapeAt inClass s a ≡ wrong n
+  wrong-read (WrongEscape.unknown at listed left) = go (escapeAt inClass s a) (escape-sound inClass s a at)
+    where
+      go : (x : Escape) → Means inClass s a x → x ≡ wrong 4
+      go (byte b end) m = absurd (listed (Listed.byte m))
+      go (named k) m = absurd (listed (Listed.set m))
+      go (assertion k) (f, inl (p, h)) = absurd (listed (Listed.edge f h))
+      go (assertion k) (f, inr (p, h)) = absurd (listed (Listed.inner f h))
+      go (wrong n) (inl p) = ap wrong p
+      go (wrong n) (inr (p, l)) = absurd (left l)
+  wrong-read (WrongEscape.leftOut at l) = left-read l
