@@ -1,0 +1,134 @@
+-- A pattern that was compiled, and what a run of its code replies: the standard's answer, under the exact conditions of a run.
+use mathlib.Core.Path.{_≡_, refl, sym, ap, _∙_}
+use mathlib.Core.Bool.{Bool, true, false, cond}
+use mathlib.Core.Option.{Option}
+use mathlib.Core.List.{List, _++_}
+use Prim.Native.Nat.{ℕ, suc, _+_, _-_, _≤_}
+use native.Mathlib.Omega.{arith}
+use borrow.Author.Tests.{leb-true}
+use lib.Dec.{leb, ltb}
+use lib.ListN.{length, drop}
+use Rattle.meaning.specs.Limits.{depthLimit, rowLimit, codeWords, workspaceWords, textLimit}
+use Rattle.meaning.specs.Text.{Regs, registersOf}
+use Rattle.meaning.specs.Bytes.{Bytes, textOf}
+use Rattle.meaning.specs.Node.{Node, Proper}
+use Rattle.meaning.specs.Numbering.{Numbers}
+use Rattle.meaning.specs.Standard.{matchAt, searchFrom}
+use Rattle.machine.specs.Steps.{run, best, matchRow, searchRow}
+use Rattle.machine.specs.Layout.{programOf}
+use Rattle.machine.specs.Laid.{program-stands}
+use Rattle.machine.specs.Words.{codeOf, codePasses, decode, rowsSaid, groupsSaid}
+use Rattle.machine.specs.Coded.{compiled-says, rowsIn-length}
+use Rattle.machine.specs.Answers.{matched, searched}
+use Rattle.machine.specs.Replies.{refusal}
+use Rattle.items.specs.Facts.{fair-proper}
+use Rattle.items.specs.Reading.{Reading.pattern, reading}
+use Rattle.items.specs.Read.{what-is-read}
+use Rattle.rows.specs.Emission.{rowsNeeded, emission, codeEmitted}
+use Rattle.rows.specs.declared.Emission.{Emission}
+use Rattle.rows.specs.declared.Emission.the-variants.{Rows as Emitted, TooMany, TooShort}
+use Rattle.compiler.specs.Compiling.{answerFor, answerBy, codeLeft, compilation, codeAt}
+use Rattle.compiler.specs.Laws.{Passed, compiled-passes}
+use Rattle.compiler.specs.declared.Compilation.the-variants.{Rows}
+use Rattle.millkettle.specs.Finding.{Lent, turnedAway}
+
+-- An answer of rows and groups comes from a program.
+only-emitted : (n g h : ℕ) (x : Emission) → answerFor h x ≡ Rows n g → x ≡ Emitted n
+only-emitted n g h (Emitted m) e = let u : m ≡ n = cc in ap Emitted u
+only-emitted n g h TooMany e = absurd (let z : _≡_ {A = ℕ} 0 1 = cc in omega arith)
+only-emitted n g h TooShort e = absurd (let z : _≡_ {A = ℕ} 0 1 = cc in omega arith)
+
+-- The code that is left then is the program's, before the words that stood behind it.
+written : (g : ℕ) (r : Node) (code : List ℕ) (n : ℕ) → emission r (length code) ≡ Emitted n
+    → codeEmitted g r code ≡ codeOf (programOf g r) ++ drop (codeWords (rowsNeeded r)) code
+written g r code n = go (ltb rowLimit (rowsNeeded r)) (ltb (length code) (codeWords (rowsNeeded r)))
+  where
+    go : (many short : Bool) → cond many TooMany (cond short TooShort (Emitted (rowsNeeded r))) ≡ Emitted n
+        → cond many code (cond short code (codeOf (programOf g r) ++ drop (codeWords (rowsNeeded r)) code))
+        ≡ codeOf (programOf g r) ++ drop (codeWords (rowsNeeded r)) code
+    go true short e = absurd (let z : _≡_ {A = ℕ} 0 1 = cc in omega arith)
+    go false true e = absurd (let z : _≡_ {A = ℕ} 0 1 = cc in omega arith)
+    go false false e = refl
+
+-- A pattern that was compiled: what it was read as, and what its code says.
+pub record Made (s table code : List ℕ) (n g : ℕ) : Type 0 where
+  pub node : Node
+  pub is-read : reading s (length table) ≡ pattern node g
+  pub is-emitted : emission node (length code) ≡ Emitted n
+  pub numbers : Numbers 1 node (suc g)
+  pub proper : Proper node
+  pub rows-are : n ≡ rowsNeeded node
+  pub passes : codePasses (codeAt s table code) ≡ true
+  pub says : decode (codeAt s table code) ≡ programOf g node
+  pub rows-said : rowsSaid (codeAt s table code) ≡ n
+  pub groups-said : groupsSaid (codeAt s table code) ≡ g
+
+pub made : (s table code : List ℕ) (n g : ℕ) → Bytes s → compilation s table code ≡ Rows n g → Made s table code n g
+made s table code n g bytes e =
+    let p : Passed s table code n g = compiled-passes s table code n g bytes e in
+    let r : Node = p .node in
+    let known = what-is-read bytes (length table) r g (p .is-read) in
+    let proper : Proper r = fair-proper r depthLimit (known .fair) in
+    let emitted : emission r (length code) ≡ Emitted n
+    = only-emitted n g g (emission r (length code)) (sym (ap (λ x. answerBy x (length code)) (p .is-read)) ∙ e) in
+    let code′ : codeAt s table code ≡ codeOf (programOf g r) ++ drop (codeWords (rowsNeeded r)) code
+    = ap (λ x. codeLeft x code) (p .is-read) ∙ written g r code n emitted in
+    let says : decode (codeAt s table code) ≡ programOf g r
+    = ap decode code′ ∙ compiled-says g r (known .numbers) proper (drop (codeWords (rowsNeeded r)) code) in
+    record {
+      node = r;
+      is-read = p .is-read;
+      is-emitted = emitted;
+      numbers = known .numbers;
+      proper = proper;
+      rows-are = p .rows-are;
+      passes = p .passes;
+      says = says;
+      rows-said = sym (rowsIn-length (codeAt s table code) (rowsSaid (codeAt s table code)) 0) ∙ ap (λ p. length (p .rows)) says
+          ∙ program-stands g r .counts ∙ sym (p .rows-are);
+      groups-said = ap (λ p. p .groups) says;
+    }
+
+-- A way to run: at the start, or searching from it on; the row that it begins at, and what the standard's algorithm finds.
+pub data Way : Type 0 where
+  matching : Way
+  searching : Way
+
+abbrev pub rowOf : Way → ℕ
+rowOf matching = matchRow
+rowOf searching = searchRow
+
+abbrev pub standardBy : Way → List ℕ → ℕ → Node → ℕ → Option Regs
+standardBy matching text g r start = matchAt (textOf text) g r start
+standardBy searching text g r start = searchFrom (textOf text) g r start
+
+-- Demand 2 for the code that `compile` leaves, for every text, start, registers and workspace.
+module _ {s table code : List ℕ} {n g : ℕ} (m : Made s table code n g) (text : List ℕ) (bytes : Bytes text) (start : ℕ) where
+  abbrev code′ : List ℕ
+  code′ = codeAt s table code
+
+  -- The run of the code is the run of the pattern's program.
+  pub same-run : (row : ℕ) → run (textOf text) (decode code′) start row ≡ run (textOf text) (programOf g (m .node)) start row
+  same-run row = ap (λ p. run (textOf text) p start row) (m .says)
+
+  pub finds : (way : Way) → start ≤ length text
+      → best (run (textOf text) (decode code′) start (rowOf way)) ≡ standardBy way text g (m .node) start
+  finds matching h = ap best (same-run matchRow) ∙ matched text g (m .node) (m .numbers) bytes (m .proper) start h
+  finds searching h = ap best (same-run searchRow) ∙ searched text g (m .node) (m .numbers) bytes (m .proper) start h
+
+  -- The conditions of its runs, in order: its code passes.
+  pub conditions : (registers workspace : ℕ) → refusal code′ text start registers workspace
+      ≡ turnedAway n g (record { text = text; start = start; registers = registers; workspace = workspace })
+  unfolding refusal
+  conditions registers workspace = rw (m .passes, m .rows-said, m .groups-said)
+
+-- What is not turned away starts inside the text.
+pub within : (n g : ℕ) (lent : Lent) → turnedAway n g lent ≡ 0 → lent .start ≤ length (lent .text)
+within n g lent = go (leb (length (lent .text)) textLimit) (leb (lent .start) (length (lent .text))) refl
+  where
+    go : (a b : Bool) → leb (lent .start) (length (lent .text)) ≡ b
+        → _≡_ {A = ℕ} (cond a (cond b (cond (leb (registersOf g) (lent .registers))
+        (cond (leb (workspaceWords n g) (lent .workspace)) 0 24) 23) 22) 21) 0 → lent .start ≤ length (lent .text)
+    go true true e f = leb-true (lent .start) (length (lent .text)) e
+    go true false e f = absurd (omega arith)
+    go false b e f = absurd (omega arith)

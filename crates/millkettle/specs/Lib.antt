@@ -1,0 +1,6 @@
+pub mod Finding
+pub mod Laws
+pub mod Found
+pub mod Demands
+pub mod Impossible
+pub mod Pinned

@@ -1,0 +1,93 @@
+// The calls that users link: patterns are compiled, code is matched and searched, and `find` does both. None asks
+// anything of its
+// arguments: what it cannot do it refuses by the outline's number, and a refusal leaves behind what the outline says.
+ghost use mathlib.Core.Path.{_≡_};
+ghost use Rattle.machine.specs.Steps.{searchRow, matchRow};
+ghost use Rattle.compiler.specs.Compiling.{Compiles};
+ghost use Rattle.engine.specs.Answers.{Answered};
+ghost use Rattle.millkettle.specs.Finding.{findingOf, Finds};
+use compiler::Compilation;
+use engine::Answer;
+
+// What `find` answers: found or none with the count of rows executed, or the number and the place of a refusal.
+pub enum Finding {
+    Found(u64),
+    Missing(u64),
+    Refused { number: u32, place: usize },
+}
+
+// A pattern's bytes as code. Answers how many rows and groups it has, or refuses it by the outline's number at a place:
+// 1 to 3 change
+// nothing, 4 to 16 make the whole table zero, and all leave the code alone. Words of the code behind its rows stay.
+pub fn compile(pattern: &[u8], table: &mut [u32], code: &mut [u32]) -> Compilation
+    ensures { λ r. ⌜ Compiles (now (pattern .entry)) (now (table .entry)) (now (table .exit)) (now (code .entry))
+        (now (code .exit)) r ⌝ }
+{
+    compiler::compile(pattern, table, code)
+}
+
+// Whether code matches at the start. Answers found or none with the count of rows executed, or refuses by 20 to 24 and
+// changes nothing.
+// The first registers hold starts and ends, -1 and -1 for a group that took no part and for all of them on none; later
+// ones stay.
+pub fn match_at(
+    code: &[u32],
+    text: &[u8],
+    start: usize,
+    registers: &mut [i32],
+    workspace: &mut [u32],
+) -> Answer
+    ensures { λ r. ⌜ Answered (now (code .entry)) (now (text .entry)) start matchRow (now (registers .entry))
+        (now (workspace .entry)) r (now (registers .exit)) (now (workspace .exit)) ⌝ }
+{
+    engine::match_at(code, text, start, registers, workspace)
+}
+
+// Whether code matches at the start or behind it, the first position that does. Answers as `match_at`.
+pub fn search(
+    code: &[u32],
+    text: &[u8],
+    start: usize,
+    registers: &mut [i32],
+    workspace: &mut [u32],
+) -> Answer
+    ensures { λ r. ⌜ Answered (now (code .entry)) (now (text .entry)) start searchRow (now (registers .entry))
+        (now (workspace .entry)) r (now (registers .exit)) (now (workspace .exit)) ⌝ }
+{
+    engine::search(code, text, start, registers, workspace)
+}
+
+// A run's answer as an answer of `find`: a refused run is at place 0.
+fn as_finding(answer: Answer) -> Finding
+    ensures { λ r. ⌜ r ≡ findingOf answer ⌝ }
+{
+    match answer {
+        Answer::Found(count) => Finding::Found(count),
+        Answer::Missing(count) => Finding::Missing(count),
+        Answer::Refused(number) => Finding::Refused { number, place: 0 },
+    }
+}
+
+// A pattern searched in a text from a start, in one call. Answers the refusal of the pattern or of the run, or found
+// with the spans that
+// the standard's search reaches first, or none exactly if that finds nothing. Table and code hold what `compile` writes.
+pub fn find(
+    pattern: &[u8],
+    text: &[u8],
+    start: usize,
+    table: &mut [u32],
+    code: &mut [u32],
+    registers: &mut [i32],
+    workspace: &mut [u32],
+) -> Finding
+    ensures { λ r. ⌜ Finds (now (pattern .entry)) (now (text .entry)) start (now (table .entry)) (now (table .exit))
+        (now (code .entry)) (now (code .exit)) (now (registers .entry)) (now (registers .exit)) (now (workspace .entry))
+        (now (workspace .exit)) r ⌝ }
+{
+    match compile(pattern, table, code) {
+        Compilation::Refused { number, place } => Finding::Refused { number, place },
+        Compilation::Rows { rows: _, groups: _ } => {
+            as_finding(search(code, text, start, registers, workspace))
+        }
+    }
+}
