@@ -14,8 +14,11 @@ use Rattle.moves.specs.declared.Move.the-variants.{Win, Lose, Eat, On, Both, Wr
 use Rattle.threads.specs.Words.{Below, Only, wordsAt}
 use Rattle.threads.specs.Threads.{threadOf, wipe, held}
 use Rattle.threads.specs.Held.{Planned, Frame, Laid, stacked, queued, Tags, Apart, Kept, Wrote, ResetTo, Queued}
-use Rattle.threads.specs.Laws.{held-same, lane, frame-len, below-same, below-one, below-at, apart-refl, apart-trans}
-use Rattle.threads.specs.Laws.{apart-kept, kept-refl, queue-stack, queue-tags, queue-kept, pushed-words, pushed-stack}
+use Rattle.threads.specs.Queues.{held-same, lane}
+use Rattle.threads.specs.Laws.{frame-len, below-same, below-one, below-at, apart-refl, apart-trans}
+use Rattle.threads.specs.Active.{apart-kept, kept-refl}
+use Rattle.threads.specs.Queues.{queue-stack, queue-tags, queue-kept}
+use Rattle.threads.specs.Laws.{pushed-words, pushed-stack}
 use Rattle.threads.specs.Laws.{pushed-apart, pushed-tags}
 use Rattle.threads.specs.declared.Plan.{Plan}
 use Rattle.threads.specs.declared.Spot.{Spot}

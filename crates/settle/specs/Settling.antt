@@ -14,7 +14,9 @@ use Rattle.machine.specs.Steps.{Thread, Machine, Machine.machine}
 use Rattle.threads.specs.Words.{Below, Only, Pasted, wordsAt, fresh}
 use Rattle.threads.specs.Threads.{threadOf, undo, held, Seen}
 use Rattle.threads.specs.Held.{Planned, Frame, Laid, Runs, stacked, rest, queued, Tags, Took}
-use Rattle.threads.specs.Laws.{words-eq, held-same, below-same, laid-len, rows-of}
+use Rattle.threads.specs.Laws.{words-eq, below-same, laid-len}
+use Rattle.threads.specs.Queues.{held-same}
+use Rattle.threads.specs.Active.{rows-of}
 use Rattle.threads.specs.declared.Plan.{Plan}
 use Rattle.threads.specs.declared.Spot.{Spot}
 use Rattle.threads.specs.declared.Taken.{Taken}

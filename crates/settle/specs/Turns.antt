@@ -21,8 +21,10 @@ use Rattle.moves.specs.declared.Move.{Move as Doing}
 use Rattle.threads.specs.Words.{Below, Only, Pasted, wordsAt, unless, fresh}
 use Rattle.threads.specs.Threads.{keyOf, regOf, threadOf, held, Seen}
 use Rattle.threads.specs.Held.{Planned, Frame, Laid, Runs, stacked, rest, queued, Tags, Kept, Took}
-use Rattle.threads.specs.Laws.{words-below, words-eq, undo-same, held-same, lane, below-same, below-at, laid-len, rest-kept}
-use Rattle.threads.specs.Laws.{rest-one, stack-none, rows-of}
+use Rattle.threads.specs.Laws.{words-below, words-eq, undo-same, below-same, below-at, laid-len}
+use Rattle.threads.specs.Queues.{held-same, lane}
+use Rattle.threads.specs.Active.{rest-kept}
+use Rattle.threads.specs.Active.{rest-one, stack-none, rows-of}
 use Rattle.threads.specs.declared.Plan.{Plan}
 use Rattle.threads.specs.declared.Spot.{Spot}
 use Rattle.threads.specs.declared.Taken.{Taken}

@@ -1,6 +1,6 @@
 use mathlib.Core.Path.{refl}
 use native.Mathlib.Omega.{arith}
-use Rattle.running.specs.Course.{some-byte, no-more}
+use Rattle.running.specs.Positions.{some-byte, no-more}
 use borrow.Author.Needs.{needs}
 use Rattle.running.proofs.byte_after.Statement.{statement}
 use Rattle.running.proofs.byte_after.Tie as tie

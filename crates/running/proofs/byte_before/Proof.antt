@@ -1,4 +1,4 @@
-use Rattle.running.specs.Course.{byte-behind, none-behind}
+use Rattle.running.specs.Positions.{byte-behind, none-behind}
 use borrow.Author.Needs.{needs}
 use Rattle.running.proofs.byte_before.Statement.{statement}
 use Rattle.running.proofs.byte_before.Tie as tie

@@ -1,6 +1,6 @@
 use Prim.Native.Nat.{_+_, _*_}
 use native.Mathlib.Omega.{arith}
-use Rattle.running.specs.Course.{depth-small}
+use Rattle.running.specs.Positions.{depth-small}
 use borrow.Author.Needs.{needs}
 use Rattle.running.proofs.plan_of.Statement.{statement}
 use Rattle.running.proofs.plan_of.Tie as tie

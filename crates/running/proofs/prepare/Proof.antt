@@ -2,7 +2,7 @@ use Prim.Native.Nat.{_+_, _*_}
 use mathlib.Core.Path.{_∙_}
 use native.Mathlib.Omega.{arith}
 use lib.ListN.{length-set}
-use Rattle.running.specs.Course.{registers-fit, prepared}
+use Rattle.running.specs.Positions.{registers-fit, prepared}
 use borrow.Author.Needs.{needs}
 use Rattle.running.proofs.prepare.Statement.{statement}
 use Rattle.running.proofs.prepare.Tie as tie

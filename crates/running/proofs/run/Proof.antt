@@ -4,7 +4,8 @@ use mathlib.Core.Path.{_∙_, refl}
 use native.Mathlib.Omega.{arith}
 use lib.ListN.{length}
 use Rattle.machine.specs.Words.{rowsSaid}
-use Rattle.running.specs.Course.{Course, depth-small, plan-said, plan-serves, plan-fits, laid-first, opens-first}
+use Rattle.running.specs.Course.{Course}
+use Rattle.running.specs.Positions.{depth-small, plan-said, plan-serves, plan-fits, laid-first, opens-first}
 use Rattle.running.specs.Course.{course-first, course-next, course-last, position-inside, count-fits, ran-from}
 use Rattle.running.specs.Course.{small-count}
 use Rattle.running.proofs.run.Statement.{statement}

@@ -5,7 +5,7 @@ use native.Mathlib.Omega.{arith}
 use native.Mathlib.Nat.{not-suc-le-zero}
 use lib.ListN.{length, length-set, getD}
 use Rattle.threads.specs.Words.{Only}
-use Rattle.threads.specs.Laws.{only-refl, only-set, paste-one}
+use Rattle.threads.specs.Queues.{only-refl, only-set, paste-one}
 use Rattle.threads.proofs.copy.Statement.{statement}
 use Rattle.threads.proofs.copy.Tie as tie
 use Rattle.threads.proofs.copy.Reads as reads

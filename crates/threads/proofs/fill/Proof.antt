@@ -5,7 +5,8 @@ use native.Mathlib.Omega.{arith}
 use native.Mathlib.Nat.{not-suc-le-zero}
 use lib.ListN.{length, length-set, getD}
 use Rattle.threads.specs.Words.{Only}
-use Rattle.threads.specs.Laws.{only-refl, only-set, fill-one, words-all}
+use Rattle.threads.specs.Queues.{only-refl, only-set, fill-one}
+use Rattle.threads.specs.Laws.{words-all}
 use Rattle.threads.proofs.fill.Statement.{statement}
 use Rattle.threads.proofs.fill.Tie as tie
 use Rattle.threads.proofs.fill.Reads as reads

@@ -7,7 +7,9 @@ use lib.ListN.{length, length-set}
 use Rattle.threads.specs.Words.{Only, wordsAt}
 use Rattle.threads.specs.Threads.{threadOf, undo}
 use Rattle.threads.specs.Held.{stacked}
-use Rattle.threads.specs.Laws.{only-refl, only-set, undone, undo-thread}
+use Rattle.threads.specs.Queues.{only-refl, only-set}
+use Rattle.threads.specs.Active.{undone}
+use Rattle.threads.specs.Laws.{undo-thread}
 use Rattle.threads.proofs.pop.Statement.{statement}
 use Rattle.threads.proofs.pop.Tie as tie
 use Rattle.threads.proofs.pop.Reads as reads

@@ -3,7 +3,7 @@ use mathlib.Core.Path.{_≡_, _∙_}
 use mathlib.Core.Logic.{_⊎_, inl, inr, ⊎-elim}
 use native.Mathlib.Omega.{arith}
 use lib.ListN.{length, length-set, set}
-use Rattle.threads.specs.Laws.{lane, queue-one}
+use Rattle.threads.specs.Queues.{lane, queue-one}
 use borrow.Author.Needs.{needs}
 use Rattle.threads.proofs.queue.Statement.{statement}
 use Rattle.threads.proofs.queue.Tie as tie

@@ -7,7 +7,8 @@ use lib.ListN.{length}
 use Rattle.threads.specs.Words.{wordsAt}
 use Rattle.threads.specs.Threads.{wipe}
 use Rattle.threads.specs.Held.{stacked, Tags, Apart}
-use Rattle.threads.specs.Laws.{apart-refl, apart-trans, wipe-more, wipe-none, frame-len}
+use Rattle.threads.specs.Laws.{apart-refl, apart-trans, frame-len}
+use Rattle.threads.specs.Queues.{wipe-more, wipe-none}
 use Rattle.threads.proofs.reset.Statement.{statement}
 use Rattle.threads.proofs.reset.Tie as tie
 use Rattle.threads.proofs.reset.Reads as reads

@@ -1,4 +1,4 @@
-use Rattle.threads.specs.Laws.{took-top, took-next, took-none}
+use Rattle.threads.specs.Active.{took-top, took-next, took-none}
 use borrow.Author.Needs.{needs}
 use Rattle.threads.proofs.take.Statement.{statement}
 use Rattle.threads.proofs.take.Tie as tie
