@@ -1,0 +1,10 @@
+pub mod Rewriting
+pub mod Quantifiers
+pub mod Own
+pub mod Frames
+pub mod Rows
+pub mod Walks
+pub mod Filling
+pub mod Dropping
+pub mod Dropped
+pub mod Carried
