@@ -1,0 +1,67 @@
+// An answer: found or none with the count of rows executed, or the refusal; then four registers, which all held 7 before.
+ghost use mathlib.Core.Path.{_≡_};
+ghost use lib.ListN.{length};
+use compiler::Compilation;
+use engine::Answer;
+use libc::STDOUT_FILENO;
+
+pub fn say(bytes: &[u8]) {
+    io::write_all(STDOUT_FILENO, bytes);
+}
+
+pub fn say_number(what: &[u8], number: u64) {
+    say(what);
+    io::print_decimal(STDOUT_FILENO, number);
+}
+
+fn say_registers(registers: &[i32; 4]) {
+    let mut line = [0u8; 80];
+    let end = report::put_spans(&mut line, 0, registers, 4);
+    say(b": ");
+    say(&line[0..end]);
+}
+
+pub fn say_answer(answer: Answer, registers: &[i32; 4]) {
+    match answer {
+        Answer::Found(rows) => say_number(b": found, rows ", rows),
+        Answer::Missing(rows) => say_number(b": none, rows ", rows),
+        Answer::Refused(number) => say_number(b": refused ", number as u64),
+    }
+    say_registers(registers);
+}
+
+// A pattern's code. Where the pattern is refused it is zeros, which no run takes.
+pub fn code_of(pattern: &[u8]) -> [u32; 640]
+    ensures { λ r. ⌜ 640 ≡ length r ⌝ }
+{
+    let mut table = [0u32; 640];
+    let mut code = [0u32; 640];
+    millkettle::compile(pattern, &mut table, &mut code);
+    code
+}
+
+// Code on a text from a start: searched, or else matched.
+pub fn run(search: bool, code: &[u32], text: &[u8], start: usize) {
+    let mut registers = [7i32; 4];
+    let mut workspace = [5u32; 1600];
+    let answer = if search {
+        millkettle::search(code, text, start, &mut registers, &mut workspace)
+    } else {
+        millkettle::match_at(code, text, start, &mut registers, &mut workspace)
+    };
+    say_answer(answer, &registers);
+}
+
+// The answer to a pattern compiled, with room for 1,024 rows.
+pub fn compiled(pattern: &[u8]) {
+    let mut table = [0u32; 640];
+    let mut code = [0u32; 12300];
+    match millkettle::compile(pattern, &mut table, &mut code) {
+        Compilation::Rows { rows, groups: _ } => say_number(b": rows ", rows as u64),
+        Compilation::Refused { number, place } => {
+            say_number(b": refused ", number as u64);
+            say_number(b" at ", place as u64);
+        }
+    }
+    say(b"\n");
+}

@@ -1,0 +1,72 @@
+// The ends of what a run takes.
+use crate::answers::code_of;
+use crate::answers::run;
+use crate::answers::say;
+use crate::answers::say_answer;
+use crate::answers::say_number;
+
+// A position that 16 bits do not hold.
+pub fn far() {
+    let mut text = [97u8; 70001];
+    text[70000] = 98;
+    let code = code_of(b"b");
+    say(b"search 0 b on 70000 a and b");
+    run(true, &code, &text, 0);
+}
+
+// What is lent to a call, by its lengths.
+fn say_lent(code: usize, text: usize, start: usize, registers: usize, workspace: usize) {
+    say_number(b"match a in code ", code as u64);
+    say_number(b" text ", text as u64);
+    say_number(b" from ", start as u64);
+    say_number(b" registers ", registers as u64);
+    say_number(b" workspace ", workspace as u64);
+}
+
+// A call with that many registers and words of a workspace, at most 4 and 288.
+fn lend(code: &[u32], text: &[u8], start: usize, registers: usize, workspace: usize) {
+    say_lent(code.len(), text.len(), start, registers, workspace);
+    let mut values = [7i32; 4];
+    let mut words = [5u32; 288];
+    if registers <= 4 {
+        if workspace <= 288 {
+            let answer = millkettle::match_at(
+                code,
+                text,
+                start,
+                &mut values[0..registers],
+                &mut words[0..workspace],
+            );
+            say_answer(answer, &values);
+        }
+    }
+}
+
+// The first bytes of a text, or all there are.
+fn front(text: &[u8], count: usize) -> &[u8] {
+    if count <= text.len() {
+        &text[0..count]
+    } else {
+        text
+    }
+}
+
+// All that turns a run away, and then one thing less in each line: the refusals in order, with both sides of each limit.
+fn refusals(code: &[u32; 640], text: &[u8; 1048577]) {
+    let words = &code[..];
+    let enough = &words[0..120];
+    let whole = &text[..];
+    let fits = front(whole, 1048576);
+    lend(&words[0..119], whole, 1048578, 1, 287);
+    lend(enough, whole, 1048578, 1, 287);
+    lend(enough, fits, 1048577, 1, 287);
+    lend(enough, fits, 1048576, 1, 287);
+    lend(enough, fits, 1048576, 2, 287);
+    lend(enough, fits, 1048576, 2, 288);
+}
+
+pub fn in_order() {
+    let code = code_of(b"a");
+    let text = [97u8; 1048577];
+    refusals(&code, &text);
+}

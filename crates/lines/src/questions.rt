@@ -1,0 +1,96 @@
+// The questions: `match 0 PATTERN` and `search 0 PATTERN` with the start, `compile PATTERN`, and `rows` with rows by hand.
+ghost use Prim.Native.Nat.{_<_, _≤_};
+ghost use lib.ListN.{length};
+use crate::answers;
+use crate::answers::code_of;
+use crate::answers::compiled;
+use crate::answers::say;
+use crate::made;
+
+// The byte at a place, or 0 behind the end.
+pub fn byte_at(line: &[u8], at: usize) -> u8 {
+    if at < line.len() {
+        return line[at];
+    }
+    0
+}
+
+// The number that a digit says.
+pub fn digit_at(line: &[u8], at: usize) -> u8 {
+    let byte = byte_at(line, at);
+    if byte < b'0' {
+        return 0;
+    }
+    byte - b'0'
+}
+
+// The line from a place on.
+fn rest(line: &[u8], from: usize) -> &[u8] {
+    if from <= line.len() {
+        &line[from..]
+    } else {
+        &line[0..0]
+    }
+}
+
+fn on(text: &[u8]) {
+    say(b" on \"");
+    say(text);
+    say(b"\"");
+}
+
+// A pattern searched from a start on, or else matched there.
+fn run(search: bool, pattern: &[u8], text: &[u8], start: usize) {
+    on(text);
+    let code = code_of(pattern);
+    answers::run(search, &code, text, start);
+}
+
+// One question, by its first letter.
+fn ask(question: &[u8], text: &[u8]) {
+    say(question);
+    match byte_at(question, 0) {
+        b'm' => run(
+            false,
+            rest(question, 8),
+            text,
+            digit_at(question, 6) as usize,
+        ),
+        b's' => run(
+            true,
+            rest(question, 9),
+            text,
+            digit_at(question, 7) as usize,
+        ),
+        b'c' => compiled(rest(question, 8)),
+        _ => {
+            on(text);
+            made::ask(rest(question, 4), text)
+        }
+    }
+}
+
+// The question at a place, and the place of the next one.
+fn ask_at(input: &[u8], at: usize) -> usize
+    requires { ⌜ at < length (now input) ⌝ }
+    ensures { λ r. ⌜ (at < r) × (r ≤ length (now (input .entry))) ⌝ }
+{
+    let lf = report::find_lf(input, at, input.len());
+    if input.len() <= lf {
+        return input.len();
+    }
+    let second = lf + 1;
+    let stop = report::find_lf(input, second, input.len());
+    ask(&input[at..lf], &input[second..stop]);
+    if input.len() <= stop {
+        return input.len();
+    }
+    stop + 1
+}
+
+pub fn ask_all(input: &[u8]) {
+    let mut at: usize = 0;
+    while at < input.len() {
+        at = ask_at(input, at);
+    }
+}
