@@ -1,7 +1,7 @@
 -- Demands 1 and 2, over the promises of the public calls. That every call ends is the toolchain's part: a function that
 -- may not end is
 -- not proved.
-use mathlib.Core.Path.{_≡_, sym, ap, _∙_}
+use mathlib.Core.Path.{_≡_, sym, ap, subst, _∙_}
 use mathlib.Core.Option.{Option, none, some}
 use mathlib.Core.List.{List, _++_}
 use Prim.Native.Nat.{ℕ, suc, _+_, _*_, _-_, _≤_}
@@ -21,7 +21,7 @@ use Rattle.engine.specs.Answers.{replyOf, executed, Answered}
 use Rattle.engine.specs.declared.Answer.{Answer}
 use Rattle.engine.specs.declared.Answer.the-variants.{Found, Missing, Refused}
 use Rattle.millkettle.specs.Finding.{Lent, lentBy, turnedAway}
-use Rattle.millkettle.specs.Laws.{Made, made, Way, rowOf, standardBy, finds, conditions, within}
+use Rattle.millkettle.specs.Laws.{Coded, Made, made, Way, rowOf, standardBy, finds, conditions, within}
 
 -- Demand 1: for any code, text, start and buffers, at most two rows are executed for each row and position,
 module _ {code text : List ℕ} {start row : ℕ} {registers registers′ : List ℤ} {workspace workspace′ : List ℕ} {r : Answer}
@@ -65,48 +65,57 @@ module _ {code text : List ℕ} {start row : ℕ} {registers registers′ : List
       go (Missing n) e = absurd (let z : _≡_ {A = ℕ} 0 1 = cc in omega arith)
       go (Refused n) e = cc
 
--- Demand 2: the code that `compile` leaves, matched or searched, answers as the standard's algorithm does on the
--- pattern that was read:
+-- Demand 2: code that says the program of a pattern, as `compile` leaves it, answers as the standard's algorithm does
+-- on that pattern:
 -- found with every group's span, or none exactly if that finds nothing; it is turned away only by 21 to 24.
-pub record Standard (way : Way) (s table text : List ℕ) (start n : ℕ) (registers registers′ : List ℤ) (workspace : List ℕ)
-    (r : Answer)
-    : Type 0 where
-  pub node : Node
-  pub groups : ℕ
-  pub is-read : reading s (length table) ≡ pattern node groups
-  pub answers : turnedAway n groups (lentBy text start registers workspace) ≡ 0
-      → replyOf r ≡ answerOf (standardBy way text groups node start) (executed r)
-  pub spans-are : turnedAway n groups (lentBy text start registers workspace) ≡ 0
-      → registers′ ≡ spans groups (standardBy way text groups node start) ++ drop (registersOf groups) registers
-  pub refuses : (k : ℕ) → turnedAway n groups (lentBy text start registers workspace) ≡ suc k → r ≡ Refused (suc k)
+pub record Standard (way : Way) (r : Node) (n g : ℕ) (text : List ℕ) (start : ℕ) (registers registers′ : List ℤ)
+    (workspace : List ℕ)
+    (answer : Answer) : Type 0 where
+  pub answers : turnedAway n g (lentBy text start registers workspace) ≡ 0
+      → replyOf answer ≡ answerOf (standardBy way text g r start) (executed answer)
+  pub spans-are : turnedAway n g (lentBy text start registers workspace) ≡ 0
+      → registers′ ≡ spans g (standardBy way text g r start) ++ drop (registersOf g) registers
+  pub refuses : (k : ℕ) → turnedAway n g (lentBy text start registers workspace) ≡ suc k → answer ≡ Refused (suc k)
 
-pub answers-standard : (way : Way) {s text : List ℕ} {start : ℕ} {table table′ code code′ : List ℕ}
-    {registers registers′ : List ℤ}
-    {workspace workspace′ : List ℕ} {n g : ℕ} {r : Answer} → Bytes s → Bytes text → Compiles s table table′ code code′ (Rows n g)
-    → Answered code′ text start (rowOf way) registers workspace r registers′ workspace′
-    → Standard way s table text start n registers registers′ workspace r
+pub answers-standard : (way : Way) {code text : List ℕ} {start : ℕ} {registers registers′ : List ℤ}
+    {workspace workspace′ : List ℕ}
+    {n g : ℕ} {r : Node} {answer : Answer} → Bytes text → Coded code n g r
+    → Answered code text start (rowOf way) registers workspace answer registers′ workspace′
+    → Standard way r n g text start registers registers′ workspace answer
 unfolding reply registersAfter
-answers-standard way {s} {text} {start} {table} {code = code} {code′ = code′} {registers = registers} {workspace = workspace}
-    {n = n} {g = g}
-    {r = r} bs bt h a =
-    let m : Made s table code n g = made s table code n g bs (sym (h .answers)) in
+answers-standard way {code} {text} {start} {registers} {workspace = workspace} {n = n} {g = g} {r = r} bytes m a =
     let lent : Lent = lentBy text start registers workspace in
-    let same : refusal code′ text start (length registers) (length workspace) ≡ turnedAway n g lent
-    = ap (λ c. refusal c text start (length registers) (length workspace)) (h .code-is)
-    ∙ conditions m text bt start (length registers) (length workspace) in
-    let found : turnedAway n g lent ≡ 0 → best (runOf code′ text start (rowOf way)) ≡ standardBy way text g (m .node) start =
-    λ e.
-    ap (λ c. best (runOf c text start (rowOf way))) (h .code-is) ∙ finds m text bt start way (within n g lent e) in
+    let same : refusal code text start (length registers) (length workspace) ≡ turnedAway n g lent
+    = conditions m text bytes start (length registers) (length workspace) in
+    let found : turnedAway n g lent ≡ 0 → best (runOf code text start (rowOf way)) ≡ standardBy way text g r start
+    = λ e. finds m text bytes start way (within n g lent e) in
     record {
-      node = m .node;
-      groups = g;
-      is-read = m .is-read;
-      answers = λ e. a .replies ∙ ap (λ k. replyTo k (runOf code′ text start (rowOf way))) (same ∙ e)
+      answers = λ e. a .replies ∙ ap (λ k. replyTo k (runOf code text start (rowOf way))) (same ∙ e)
           ∙ rw (found e, ← counted-rows a (same ∙ e));
-      spans-are = λ e. a .spans ∙ ap (λ k. registersFrom k (groupsSaid code′) (runOf code′ text start (rowOf way)) registers)
+      spans-are = λ e. a .spans ∙ ap (λ k. registersFrom k (groupsSaid code) (runOf code text start (rowOf way)) registers)
           (same ∙ e)
-          ∙ ap (λ k. registersFrom 0 k (runOf code′ text start (rowOf way)) registers)
-          (ap groupsSaid (h .code-is) ∙ m .groups-said)
+          ∙ ap (λ k. registersFrom 0 k (runOf code text start (rowOf way)) registers) (m .groups-said)
           ∙ ap (λ o. spans g o ++ drop (registersOf g) registers) (found e);
       refuses = λ k e. turned-rows a k (same ∙ e) .0;
+    }
+
+-- So do the calls on what `compile` was given and left.
+pub record Compiled (way : Way) (s table text : List ℕ) (start n g : ℕ) (registers registers′ : List ℤ) (workspace : List ℕ)
+    (answer : Answer) : Type 0 where
+  pub node : Node
+  pub is-read : reading s (length table) ≡ pattern node g
+  pub standard : Standard way node n g text start registers registers′ workspace answer
+
+pub compiled-standard : (way : Way) {s text : List ℕ} {start : ℕ} {table table′ code code′ : List ℕ}
+    {registers registers′ : List ℤ}
+    {workspace workspace′ : List ℕ} {n g : ℕ} {answer : Answer} → Bytes s → Bytes text → Compiles s table table′ code code′
+    (Rows n g)
+    → Answered code′ text start (rowOf way) registers workspace answer registers′ workspace′
+    → Compiled way s table text start n g registers registers′ workspace answer
+compiled-standard way {s} {table = table} {code = code} {n = n} {g = g} bs bt h a =
+    let m : Made s table code n g = made s table code n g bs (sym (h .answers)) in
+    record {
+      node = m .node;
+      is-read = m .is-read;
+      standard = answers-standard way bt (subst (λ (c : List ℕ). Coded c n g (m .node)) (sym (h .code-is)) (m .is-coded)) a;
     }

@@ -88,8 +88,8 @@ module _ (s text : List ℕ) (start : ℕ) (table code : List ℕ) (registers : 
         from-answer (best (runOf (codeAt s table code) text start searchRow))
         (count (runOf (codeAt s table code) text start searchRow))
         ∙ rw (
-          finds m text bytes start searching (within n g (lentBy text start registers workspace) e),
-          same-run m text bytes
+          finds (m .is-coded) text bytes start searching (within n g (lentBy text start registers workspace) e),
+          same-run (m .is-coded) text bytes
               start searchRow,
         )
     by-number (suc k) e = refl
@@ -97,7 +97,8 @@ module _ (s text : List ℕ) (start : ℕ) (table code : List ℕ) (registers : 
     spans-by-number : (k : ℕ) → turnedAway n g (lentBy text start registers workspace) ≡ k
         → registersFrom k g (runOf (codeAt s table code) text start searchRow) registers
         ≡ spansRan k (m .node) g (lentBy text start registers workspace) registers
-    spans-by-number zero e = rw (finds m text bytes start searching (within n g (lentBy text start registers workspace) e))
+    spans-by-number zero e = rw (finds (m .is-coded) text bytes start searching
+        (within n g (lentBy text start registers workspace) e))
     spans-by-number (suc k) e = refl
 
     replied : findingFrom (reply (codeAt s table code) text start (length registers) (length workspace) searchRow)
@@ -106,7 +107,7 @@ module _ (s text : List ℕ) (start : ℕ) (table code : List ℕ) (registers : 
     replied =
         let lent : Lent = lentBy text start registers workspace in
         ap (λ k. findingFrom (replyTo k (runOf (codeAt s table code) text start searchRow)))
-        (conditions m text bytes start (length registers) (length workspace))
+        (conditions (m .is-coded) text bytes start (length registers) (length workspace))
         ∙ by-number (turnedAway n g lent) refl ∙ sym (ap (λ x. findingBy x (length code) lent) (m .is-read)
         ∙ ap (λ y. emitted y (m .node) g lent) (m .is-emitted))
 
@@ -117,8 +118,8 @@ module _ (s text : List ℕ) (start : ℕ) (table code : List ℕ) (registers : 
         let lent : Lent = lentBy text start registers workspace in
         let M : Machine = runOf (codeAt s table code) text start searchRow in
         ap (λ k. registersFrom k (groupsSaid (codeAt s table code)) M registers)
-        (conditions m text bytes start (length registers) (length workspace))
-        ∙ ap (λ h. registersFrom (turnedAway n g lent) h M registers) (m .groups-said)
+        (conditions (m .is-coded) text bytes start (length registers) (length workspace))
+        ∙ ap (λ h. registersFrom (turnedAway n g lent) h M registers) (m .is-coded .groups-said)
         ∙ spans-by-number (turnedAway n g lent) refl ∙ sym (ap (λ x. spansBy x (length code) lent registers) (m .is-read)
         ∙ ap (λ y. spansEmitted y (m .node) g lent registers) (m .is-emitted))
 
@@ -132,9 +133,10 @@ module _ (s text : List ℕ) (start : ℕ) (table code : List ℕ) (registers : 
       code-is = c;
       spans-are = a .spans ∙ spanned;
       long = a .long;
-      later = λ i h. a .later i (rw (m .rows-said, m .groups-said, m .rows-are) (rw (m .is-read) at h));
+      later = λ i h. a .later i (rw (m .is-coded .rows-said, m .is-coded .groups-said, m .is-coded .rows-are)
+          (rw (m .is-read) at h));
       untouched = λ number place e. a .untouched number (only-stopped r number place e);
-      bounded = rw (m .is-read, counted-of, ← m .rows-are, ← m .rows-said) (a .bounded);
+      bounded = rw (m .is-read, counted-of, ← m .is-coded .rows-are, ← m .is-coded .rows-said) (a .bounded);
     }
       where
         only-stopped : (r : Answer) (number place : ℕ) → findingOf r ≡ Refused number place → r ≡ Stopped number
