@@ -117,7 +117,7 @@ set-of (seq r q) s e = absurd (Option·none-ne-some s e)
 set-of (alt r q) s e = absurd (Option·none-ne-some s e)
 set-of (many n f lazy r) s e = absurd (Option·none-ne-some s e)
 
-begins-own : (l : List Node) (s : List ℕ) → firstSet l ≡ some s → isSome (restOf s l) ≡ true
+pub begins-own : (l : List Node) (s : List ℕ) → firstSet l ≡ some s → isSome (restOf s l) ≡ true
 begins-own [] s e = absurd (Option·none-ne-some s e)
 begins-own (t ∷ l) s e = rw (set-of t s e, same-refl (bset s))
 

@@ -50,7 +50,7 @@ fn first_item(table: &[u32], top: usize) -> usize
 }
 
 // Whether the first items of two parts are the same byte set.
-fn begins_alike(table: &[u32], one: usize, other: usize) -> bool
+pub fn begins_alike(table: &[u32], one: usize, other: usize) -> bool
     requires { ⌜ SomePart (now table) one × SomePart (now table) other ⌝ }
     ensures { λ r. ⌜ TellsBoth r (now (table .entry)) one other alike ⌝ }
 {

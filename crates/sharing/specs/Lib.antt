@@ -1,0 +1,9 @@
+pub mod Leads
+pub mod Trims
+pub mod Wraps
+pub mod Lent
+pub mod Runs
+pub mod Shortening
+pub mod Shares
+pub mod Located
+pub mod Sharing
