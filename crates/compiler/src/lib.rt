@@ -5,9 +5,9 @@ use pattern::Reading;
 use rows::Emission;
 
 // The outline's numbers for what has no program: too many rows, and code too short for them.
-const MANY_ROWS: u32 = 15;
+pub const MANY_ROWS: u32 = 15;
 
-const SHORT_CODE: u32 = 16;
+pub const SHORT_CODE: u32 = 16;
 
 // What a pattern's compilation answers.
 pub enum Compilation {
@@ -16,7 +16,7 @@ pub enum Compilation {
 }
 
 // A pattern that was read and has no program: its table is made zero.
-fn without_program(table: &mut [u32], number: u32) -> Compilation
+pub fn without_program(table: &mut [u32], number: u32) -> Compilation
     ensures { λ r. ⌜ Cleared number (now (table .entry)) (now (table .exit)) r ⌝ }
 {
     clear(table, 0);

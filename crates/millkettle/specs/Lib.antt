@@ -4,3 +4,5 @@ pub mod Found
 pub mod Demands
 pub mod Impossible
 pub mod Pinned
+pub mod Tidied
+pub mod Untidied

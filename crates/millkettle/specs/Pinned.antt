@@ -6,6 +6,7 @@ use lib.IntN.{ℤ}
 use lib.ListN.{length}
 use Rattle.compiler.specs.Compiling.{Compiles}
 use Rattle.compiler.specs.declared.Compilation.{Compilation}
+use Rattle.tidied.specs.Compiling.{CompilesTidied}
 use Rattle.engine.specs.Answers.{Answered}
 use Rattle.engine.specs.Pinned.{same-answer}
 use Rattle.engine.specs.declared.Answer.{Answer}
@@ -20,6 +21,11 @@ agree e f = e ∙ sym f
 pub one-compilation : {s table t₁ t₂ code c₁ c₂ : List ℕ} {a₁ a₂ : Compilation} → Compiles s table t₁ code c₁ a₁
     → Compiles s table t₂ code c₂ a₂ → (a₁ ≡ a₂) × (t₁ ≡ t₂) × (c₁ ≡ c₂)
 one-compilation f g = (agree (f .answers) (g .answers), agree (f .table-is) (g .table-is), agree (f .code-is) (g .code-is))
+
+-- Two of `compile_tidied`.
+pub one-tidied : {s table t₁ t₂ code c₁ c₂ : List ℕ} {a₁ a₂ : Compilation} → CompilesTidied s table t₁ code c₁ a₁
+    → CompilesTidied s table t₂ code c₂ a₂ → (a₁ ≡ a₂) × (t₁ ≡ t₂) × (c₁ ≡ c₂)
+one-tidied f g = (agree (f .answers) (g .answers), agree (f .table-is) (g .table-is), agree (f .code-is) (g .code-is))
 
 -- Two of `match_at`, or of `search`: answer and registers, whatever the workspace held.
 pub one-run : {code text : List ℕ} {start row : ℕ} {before r₁ r₂ : List ℤ} {w w₁ w₂ : List ℕ} {a₁ a₂ : Answer}

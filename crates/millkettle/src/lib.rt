@@ -4,6 +4,7 @@
 ghost use mathlib.Core.Path.{_≡_};
 ghost use Rattle.machine.specs.Steps.{searchRow, matchRow};
 ghost use Rattle.compiler.specs.Compiling.{Compiles};
+ghost use Rattle.tidied.specs.Compiling.{CompilesTidied};
 ghost use Rattle.engine.specs.Answers.{Answered};
 ghost use Rattle.millkettle.specs.Finding.{findingOf, Finds};
 use compiler::Compilation;
@@ -24,6 +25,16 @@ pub fn compile(pattern: &[u8], table: &mut [u32], code: &mut [u32]) -> Compilati
         (now (code .exit)) r ⌝ }
 {
     compiler::compile(pattern, table, code)
+}
+
+// As `compile`, for the tidied pattern: refusals are those of the plain one, but 16 is by the tidied one's rows. The
+// table then holds the
+// tidied pattern.
+pub fn compile_tidied(pattern: &[u8], table: &mut [u32], code: &mut [u32]) -> Compilation
+    ensures { λ r. ⌜ CompilesTidied (now (pattern .entry)) (now (table .entry)) (now (table .exit)) (now (code .entry))
+        (now (code .exit)) r ⌝ }
+{
+    tidied::compile_tidied(pattern, table, code)
 }
 
 // Whether code matches at the start. Answers found or none with the count of rows executed, or refuses by 20 to 24 and

@@ -1,0 +1,5 @@
+pub mod Charged
+pub mod Given
+pub mod Compiling
+pub mod Laws
+pub mod Examples

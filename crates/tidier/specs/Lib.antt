@@ -1,0 +1,6 @@
+pub mod Limits
+pub mod Standing
+pub mod Search
+pub mod Held
+pub mod Steps
+pub mod Tidies
