@@ -4,6 +4,7 @@ ghost use lib.ListN.{length};
 use compiler::Compilation;
 use engine::Answer;
 use libc::STDOUT_FILENO;
+use millkettle::Finding;
 
 pub fn say(bytes: &[u8]) {
     io::write_all(STDOUT_FILENO, bytes);
@@ -52,11 +53,9 @@ pub fn run(search: bool, code: &[u32], text: &[u8], start: usize) {
     say_answer(answer, &registers);
 }
 
-// The answer to a pattern compiled, with room for 1,024 rows.
-pub fn compiled(pattern: &[u8]) {
-    let mut table = [0u32; 640];
-    let mut code = [0u32; 12300];
-    match millkettle::compile(pattern, &mut table, &mut code) {
+// What compiling answers.
+fn say_compiled(answer: Compilation) {
+    match answer {
         Compilation::Rows { rows, groups: _ } => say_number(b": rows ", rows as u64),
         Compilation::Refused { number, place } => {
             say_number(b": refused ", number as u64);
@@ -64,4 +63,43 @@ pub fn compiled(pattern: &[u8]) {
         }
     }
     say(b"\n");
+}
+
+// The answer to a pattern compiled, with room for 1,024 rows.
+pub fn compiled(pattern: &[u8]) {
+    let mut table = [0u32; 640];
+    let mut code = [0u32; 12300];
+    say_compiled(millkettle::compile(pattern, &mut table, &mut code));
+}
+
+// The same of the tidied pattern, of at most 659 bytes.
+pub fn tidied(pattern: &[u8]) {
+    let mut table = [0u32; 21120];
+    let mut code = [0u32; 12300];
+    say_compiled(millkettle::compile_tidied(pattern, &mut table, &mut code));
+}
+
+// A pattern found in a text, in one call.
+pub fn found(pattern: &[u8], text: &[u8], start: usize) {
+    let mut table = [0u32; 640];
+    let mut code = [0u32; 640];
+    let mut registers = [7i32; 4];
+    let mut workspace = [5u32; 1600];
+    match millkettle::find(
+        pattern,
+        text,
+        start,
+        &mut table,
+        &mut code,
+        &mut registers,
+        &mut workspace,
+    ) {
+        Finding::Found(rows) => say_number(b": found, rows ", rows),
+        Finding::Missing(rows) => say_number(b": none, rows ", rows),
+        Finding::Refused { number, place } => {
+            say_number(b": refused ", number as u64);
+            say_number(b" at ", place as u64);
+        }
+    }
+    say_registers(&registers);
 }

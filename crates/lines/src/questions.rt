@@ -1,10 +1,13 @@
-// The questions: `match 0 PATTERN` and `search 0 PATTERN` with the start, `compile PATTERN`, and `rows` with rows by hand.
+// The questions: `match 0 PATTERN`, `search 0 PATTERN` and `find 0 PATTERN` with the start, `compile PATTERN`, `tidied PATTERN`, and
+// `rows` with rows by hand.
 ghost use Prim.Native.Nat.{_<_, _≤_};
 ghost use lib.ListN.{length};
 use crate::answers;
 use crate::answers::code_of;
 use crate::answers::compiled;
+use crate::answers::found;
 use crate::answers::say;
+use crate::answers::tidied;
 use crate::made;
 
 // The byte at a place, or 0 behind the end.
@@ -46,6 +49,12 @@ fn run(search: bool, pattern: &[u8], text: &[u8], start: usize) {
     answers::run(search, &code, text, start);
 }
 
+// A pattern found in one call.
+fn find(pattern: &[u8], text: &[u8], start: usize) {
+    on(text);
+    found(pattern, text, start);
+}
+
 // One question, by its first letter.
 fn ask(question: &[u8], text: &[u8]) {
     say(question);
@@ -62,7 +71,9 @@ fn ask(question: &[u8], text: &[u8]) {
             text,
             digit_at(question, 7) as usize,
         ),
+        b'f' => find(rest(question, 7), text, digit_at(question, 5) as usize),
         b'c' => compiled(rest(question, 8)),
+        b't' => tidied(rest(question, 7)),
         _ => {
             on(text);
             made::ask(rest(question, 4), text)
