@@ -95,10 +95,10 @@ pub fn find(
         (now (code .entry)) (now (code .exit)) (now (registers .entry)) (now (registers .exit)) (now (workspace .entry))
         (now (workspace .exit)) r ⌝ }
 {
-    match compile(pattern, table, code) {
+    match compiler::compile(pattern, table, code) {
         Compilation::Refused { number, place } => Finding::Refused { number, place },
         Compilation::Rows { rows: _, groups: _ } => {
-            as_finding(search(code, text, start, registers, workspace))
+            as_finding(engine::search(code, text, start, registers, workspace))
         }
     }
 }

@@ -20,8 +20,9 @@ pub const LINE_BYTES: usize = 4_096;
 pub fn output(input: &[u8]) -> String {
     let mut lines = lines(input).into_iter();
     // "No pattern line, no output."
-    let Some(pattern) = lines.next() else {
-        return String::new();
+    let pattern = match lines.next() {
+        Some(pattern) => pattern,
+        None => return String::new(),
     };
     match compile(pattern, TABLE_WORDS, CODE_WORDS) {
         // "A refused pattern prints `refused N at P` and ends the work".
@@ -40,7 +41,7 @@ pub fn output(input: &[u8]) -> String {
 /// The lines: "A last line without LF counts unless empty."
 fn lines(input: &[u8]) -> Vec<&[u8]> {
     let mut lines: Vec<&[u8]> = input.split(|&byte| byte == b'\n').collect();
-    if lines.last().is_some_and(|last| last.is_empty()) {
+    if lines.last().map_or(false, |last| last.is_empty()) {
         lines.pop();
     }
     lines

@@ -47,8 +47,9 @@ pub fn run(
     lent: Lent,
     entry: Entry,
 ) -> Result<Answer, Refusal> {
-    let Some(program) = check(code) else {
-        return refuse(CODE_FAILS, 0);
+    let program = match check(code) {
+        Some(program) => program,
+        None => return refuse(CODE_FAILS, 0),
     };
     let (n, g) = (program.n(), program.groups() as usize);
     if text.len() > TEXT_LIMIT {
@@ -136,7 +137,7 @@ fn settle(
             // "A Consume that fits queues the next row for the next position
             // with the flag set."
             Row::Consume(set) => {
-                if text.get(position).is_some_and(|&byte| sets::has(&set, byte)) {
+                if text.get(position).map_or(false, |&byte| sets::has(&set, byte)) {
                     thread.flag = true;
                     queue.push_back(thread.on());
                 }

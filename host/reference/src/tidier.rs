@@ -61,7 +61,10 @@ pub fn parts(tree: &Node) -> Vec<(Vec<usize>, &Node)> {
 
 /// The tree with one part replaced; sequences and alternations stay flat.
 fn replace(tree: Node, part: &[usize], new: Node) -> Node {
-    let [index, rest @ ..] = part else { return new };
+    let (index, rest) = match part.split_first() {
+        Some(first_and_rest) => first_and_rest,
+        None => return new,
+    };
     match tree {
         Node::Group(number, inner) => Node::Group(number, Box::new(replace(*inner, rest, new))),
         Node::Many { min, max, lazy, inner } => {
@@ -100,42 +103,52 @@ pub fn apply(law: u32, node: &Node) -> Option<Node> {
 
 /// T1: "empty items leave a sequence."
 fn t1(node: &Node) -> Option<Node> {
-    let Node::Seq(items) = node else { return None };
-    let left: Vec<Node> = items.iter().filter(|item| **item != Node::Empty).cloned().collect();
-    (left.len() < items.len()).then(|| Node::sequence(left))
-}
-
-/// T2: "r{1} is r; r{0} is empty", of either laziness, for r without a group.
-fn t2(node: &Node) -> Option<Node> {
-    let Node::Many { min, max, inner, .. } = node else { return None };
-    if !inner.is_group_free() {
-        return None;
-    }
-    match (min, max) {
-        (1, Some(1)) => Some((**inner).clone()),
-        (0, Some(0)) => Some(Node::Empty),
+    match node {
+        Node::Seq(items) if items.contains(&Node::Empty) => {
+            let left = items.iter().filter(|item| **item != Node::Empty).cloned();
+            Some(Node::sequence(left.collect()))
+        }
         _ => None,
     }
 }
 
+/// T2: "r{1} is r; r{0} is empty", of either laziness, for r without a group.
+fn t2(node: &Node) -> Option<Node> {
+    if let Some((_, r)) = quantified(node, (1, Some(1))) {
+        return Some(r.clone());
+    }
+    quantified(node, (0, Some(0))).map(|_| Node::Empty)
+}
+
 /// T3: "a quantified empty is empty."
 fn t3(node: &Node) -> Option<Node> {
-    let Node::Many { inner, .. } = node else { return None };
-    (**inner == Node::Empty).then_some(Node::Empty)
+    match node {
+        Node::Many { inner, .. } if **inner == Node::Empty => Some(Node::Empty),
+        _ => None,
+    }
 }
 
 /// T4: "an assertion with min 0 is empty, with min 1 or more is itself."
 fn t4(node: &Node) -> Option<Node> {
-    let Node::Many { min, inner, .. } = node else { return None };
-    let Node::Assert(number) = **inner else { return None };
-    Some(if *min == 0 { Node::Empty } else { Node::Assert(number) })
+    match node {
+        Node::Many { min, inner, .. } => match **inner {
+            Node::Assert(_) if *min == 0 => Some(Node::Empty),
+            Node::Assert(number) => Some(Node::Assert(number)),
+            _ => None,
+        },
+        _ => None,
+    }
 }
 
-/// Counts, laziness and inside of a part quantified with these counts, for an
+/// The laziness and the inside of a part quantified with these counts, for an
 /// inside without a group.
 fn quantified(node: &Node, counts: (u32, Option<u32>)) -> Option<(bool, &Node)> {
-    let Node::Many { min, max, lazy, inner } = node else { return None };
-    ((*min, *max) == counts && inner.is_group_free()).then_some((*lazy, inner))
+    match node {
+        Node::Many { min, max, lazy, inner } if (*min, *max) == counts && inner.is_group_free() => {
+            Some((*lazy, inner))
+        }
+        _ => None,
+    }
 }
 
 /// T5: "`(?:r*)*` and `(?:r*?)*` are `r*`; `(?:r*?)*?` is `r*?`."
@@ -147,13 +160,21 @@ fn t5(node: &Node) -> Option<Node> {
     fits.then(|| Node::many(0, None, outer_lazy, r.clone()))
 }
 
+/// The alternatives of an alternation.
+fn alternatives(node: &Node) -> Option<&[Node]> {
+    match node {
+        Node::Alt(alternatives) => Some(alternatives),
+        _ => None,
+    }
+}
+
 /// T6: "an alternative equal to an earlier one goes." Groups are numbered
 /// apart, so that an equal alternative has none.
 fn t6(node: &Node) -> Option<Node> {
-    let Node::Alt(alternatives) = node else { return None };
+    let alternatives = alternatives(node)?;
     let equals_earlier = |&index: &usize| {
         let (earlier, later) = alternatives.split_at(index);
-        later.first().is_some_and(|this| this.is_group_free() && earlier.contains(this))
+        later.first().map_or(false, |this| this.is_group_free() && earlier.contains(this))
     };
     let goes = (0..alternatives.len()).find(equals_earlier)?;
     Some(Node::alternation(without(alternatives, goes)))
@@ -176,7 +197,7 @@ fn t7(node: &Node) -> Option<Node> {
 /// T8: "the leftmost longest run of two or more adjacent alternatives whose
 /// first item is the same byte set, unquantified, shares it."
 fn t8(node: &Node) -> Option<Node> {
-    let Node::Alt(alternatives) = node else { return None };
+    let alternatives = alternatives(node)?;
     let firsts: Vec<Option<Set>> = alternatives.iter().map(first_set).collect();
     let begin = firsts.windows(2).position(|two| two[0].is_some() && two[0] == two[1])?;
     let shared = firsts[begin];

@@ -221,7 +221,10 @@ fn deep_sharing() {
     let mut depth = 0;
     while let Node::Seq(items) = node {
         assert_eq!(items.len(), 2);
-        let Node::Alt(rests) = &items[1] else { panic!() };
+        let rests = match &items[1] {
+            Node::Alt(rests) => rests,
+            _ => panic!(),
+        };
         assert_eq!((rests.len(), &rests[0]), (2, &Node::Empty));
         node = &rests[1];
         depth += 1;

@@ -47,7 +47,10 @@ fn three_matchers_and_the_tidied_pattern() {
     for _ in 0..4_000 {
         let bytes = pattern(&mut random);
         let reading = read(&bytes, ROOM).expect("a valid pattern");
-        let Ok(plain) = compile(&bytes, ROOM, ROOM) else { continue };
+        let plain = match compile(&bytes, ROOM, ROOM) {
+            Ok(plain) => plain,
+            _ => continue,
+        };
         let tidied = compile_tidied(&bytes, ROOM, ROOM).expect("no more rows than the plain one");
         assert!(tidied.n() <= plain.n());
         assert_eq!(tidied.groups(), plain.groups());
@@ -98,8 +101,14 @@ fn long_texts() {
     let mut random = Random::new(2);
     for _ in 0..150 {
         let bytes = pattern(&mut random);
-        let Ok(plain) = compile(&bytes, ROOM, ROOM) else { continue };
-        let Ok(tidied) = compile_tidied(&bytes, ROOM, ROOM) else { continue };
+        let plain = match compile(&bytes, ROOM, ROOM) {
+            Ok(plain) => plain,
+            _ => continue,
+        };
+        let tidied = match compile_tidied(&bytes, ROOM, ROOM) {
+            Ok(tidied) => tidied,
+            _ => continue,
+        };
         let text = long_text(&mut random, &bytes, 1_500);
         let start = random.below(text.len() + 1);
         for entry in ENTRIES {
@@ -115,7 +124,10 @@ fn tidying_ends_with_no_law_left() {
     let mut random = Random::new(3);
     for _ in 0..6_000 {
         let bytes = pattern(&mut random);
-        let Ok(Reading { tree, groups }) = read(&bytes, ROOM) else { continue };
+        let (tree, groups) = match read(&bytes, ROOM) {
+            Ok(Reading { tree, groups }) => (tree, groups),
+            _ => continue,
+        };
         let tidied = tidy(tree.clone());
         assert_eq!(find(&tidied), None);
         assert!(size(&tidied) <= size(&tree), "{}", bytes.escape_ascii());
@@ -199,7 +211,10 @@ fn sizes_are_the_rows() {
     let mut random = Random::new(7);
     for _ in 0..3_000 {
         let bytes = pattern(&mut random);
-        let Ok(Reading { tree, groups }) = read(&bytes, ROOM) else { continue };
+        let (tree, groups) = match read(&bytes, ROOM) {
+            Ok(Reading { tree, groups }) => (tree, groups),
+            _ => continue,
+        };
         match program(&tree, groups) {
             Ok(program) => {
                 assert_eq!(program.n() as u64, 8 + size(&tree));

@@ -175,7 +175,7 @@ impl Writer<'_> {
             whole.extend(b"(?:");
         }
         whole.append(&mut self.out);
-        whole.extend(std::iter::repeat_n(b')', more));
+        whole.extend(std::iter::repeat(b')').take(more));
         self.out = whole;
     }
 
@@ -213,7 +213,7 @@ impl Writer<'_> {
     fn number(&mut self, value: usize) {
         if self.random.percent(5) {
             let zeros = self.random.between(1, 5);
-            self.out.extend(std::iter::repeat_n(b'0', zeros));
+            self.out.extend(std::iter::repeat(b'0').take(zeros));
         }
         self.out.extend(value.to_string().as_bytes());
     }

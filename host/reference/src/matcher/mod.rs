@@ -31,7 +31,7 @@ pub fn holds(assertion: u32, text: &[u8], position: usize) -> bool {
 /// Is one of the bytes around this position a word byte, and the other not?
 fn is_word_boundary(text: &[u8], position: usize) -> bool {
     let words = sets::word_bytes();
-    let is_word = |byte: Option<&u8>| byte.is_some_and(|&byte| sets::has(&words, byte));
+    let is_word = |byte: Option<&u8>| byte.map_or(false, |&byte| sets::has(&words, byte));
     let before = position.checked_sub(1).and_then(|before| text.get(before));
     is_word(before) != is_word(text.get(position))
 }

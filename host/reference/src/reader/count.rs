@@ -14,14 +14,15 @@ pub struct Count {
 /// The count whose `{` stands at `place`, after an atom. All its refusals
 /// are at the `{`: 7 before 8, 8 before 9.
 pub fn count(bytes: &[u8], place: usize) -> Result<Count, Refusal> {
-    let Some(count) = form(bytes, place) else {
-        return refuse(BAD_COUNT, place);
+    let count = match form(bytes, place) {
+        Some(count) => count,
+        None => return refuse(BAD_COUNT, place),
     };
     let highest = count.max.unwrap_or(count.min).max(count.min);
     if highest > COUNT_LIMIT {
         return refuse(COUNT_TOO_LARGE, place);
     }
-    if count.max.is_some_and(|max| count.min > max) {
+    if count.max.map_or(false, |max| count.min > max) {
         return refuse(COUNTS_REVERSED, place);
     }
     Ok(count)

@@ -33,8 +33,9 @@ impl Meaning {
 /// refusal is at the `\`. The assertions `\b` and `\B` outside a class are not
 /// asked for here.
 pub fn escape(bytes: &[u8], place: usize, stands: Where) -> Result<(Meaning, usize), Refusal> {
-    let Some(&letter) = bytes.get(place + 1) else {
-        return refuse(UNKNOWN_ESCAPE, place);
+    let letter = match bytes.get(place + 1) {
+        Some(&letter) => letter,
+        None => return refuse(UNKNOWN_ESCAPE, place),
     };
     let after = place + 2;
     let byte = |byte| Ok((Meaning::Byte(byte), after));
@@ -52,7 +53,7 @@ pub fn escape(bytes: &[u8], place: usize, stands: Where) -> Result<(Meaning, usi
         b'f' => byte(0x0C),
         b'r' => byte(0x0D),
         b'b' if stands == Where::InClass => byte(0x08),
-        b'0' if !bytes.get(after).is_some_and(u8::is_ascii_digit) => byte(0x00),
+        b'0' if !bytes.get(after).map_or(false, u8::is_ascii_digit) => byte(0x00),
         b'c' => match bytes.get(after) {
             Some(letter) if letter.is_ascii_alphabetic() => {
                 Ok((Meaning::Byte(letter % 32), after + 1))

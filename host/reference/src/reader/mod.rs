@@ -70,7 +70,7 @@ impl Reader<'_> {
 
     /// Do these bytes come next?
     fn comes(&self, what: &[u8]) -> bool {
-        self.bytes.get(self.at..).is_some_and(|rest| rest.starts_with(what))
+        self.bytes.get(self.at..).map_or(false, |rest| rest.starts_with(what))
     }
 
     /// Passes these bytes if they come next.

@@ -10,7 +10,10 @@ use crate::reader::GROUP_LIMIT;
 ///
 /// Answers the rows of code that passes.
 pub fn check(code: &[u32]) -> Option<Program> {
-    let &[n, groups, ..] = code else { return None };
+    let (n, groups) = match code {
+        &[n, groups, ..] => (n, groups),
+        _ => return None,
+    };
     if !(ROW_LEAST..=ROW_LIMIT).contains(&n) || groups > GROUP_LIMIT {
         return None;
     }
@@ -20,7 +23,7 @@ pub fn check(code: &[u32]) -> Option<Program> {
         .map(|words| Row::of_words(words.try_into().ok()?))
         .collect::<Option<_>>()?;
     let fits = rows.iter().all(|row| row_fits(row, n, groups));
-    let ends = rows.last().is_some_and(may_be_last);
+    let ends = rows.last().map_or(false, may_be_last);
     (fits && ends).then_some(Program { groups, rows })
 }
 

@@ -1,0 +1,105 @@
+//! The archive's functions: the only unsafe code.
+//!
+//! Each is proved for all arguments and asks nothing of its caller, so the calls are as safe as the
+//! slices that they are handed: a slice goes as its pointer and its length, and what is written to
+//! is borrowed alone.
+
+/// What compiling answers: 0, the rows and the groups; or a refusal's number and place.
+#[repr(C)]
+#[derive(Clone, Copy, Debug, PartialEq, Eq)]
+pub struct Compiled {
+    /// 0, or the refusal's number, 1 to 16.
+    pub number: u32,
+    /// n, the number of rows; 0 if refused.
+    pub rows: u32,
+    /// g, the number of groups; 0 if refused.
+    pub groups: u32,
+    /// The refusal's place in the pattern; 0 if there is none.
+    pub place: usize,
+}
+
+/// What a run answers: 0, found or none, and the count; or a refusal's number.
+#[repr(C)]
+#[derive(Clone, Copy, Debug, PartialEq, Eq)]
+pub struct Ran {
+    /// 0, or the refusal's number, 20 to 24.
+    pub number: u32,
+    /// 1 for found, 0 for none or refused.
+    pub found: u32,
+    /// Always 0: "place 0".
+    pub place: usize,
+    /// The count of rows executed; 0 if refused.
+    pub count: u64,
+}
+
+type Compile = unsafe extern "C" fn(*const u8, usize, *mut u8, usize) -> Compiled;
+type Run = unsafe extern "C" fn(*const u8, usize, *const u8, usize, usize, *mut u8, usize) -> Ran;
+
+extern "C" {
+    fn millkettle_compile(
+        pattern: *const u8,
+        pattern_bytes: usize,
+        code: *mut u8,
+        code_bytes: usize,
+    ) -> Compiled;
+
+    #[cfg(feature = "tidied")]
+    fn millkettle_compile_tidied(
+        pattern: *const u8,
+        pattern_bytes: usize,
+        code: *mut u8,
+        code_bytes: usize,
+    ) -> Compiled;
+
+    fn millkettle_match(
+        code: *const u8,
+        code_bytes: usize,
+        text: *const u8,
+        text_bytes: usize,
+        start: usize,
+        registers: *mut u8,
+        registers_bytes: usize,
+    ) -> Ran;
+
+    fn millkettle_search(
+        code: *const u8,
+        code_bytes: usize,
+        text: *const u8,
+        text_bytes: usize,
+        start: usize,
+        registers: *mut u8,
+        registers_bytes: usize,
+    ) -> Ran;
+}
+
+fn compile_by(compile: Compile, pattern: &[u8], code: &mut [u8]) -> Compiled {
+    // SAFETY: both pointers are valid for their lengths, and `code` overlaps nothing.
+    unsafe { compile(pattern.as_ptr(), pattern.len(), code.as_mut_ptr(), code.len()) }
+}
+
+fn run_by(run: Run, code: &[u8], text: &[u8], start: usize, registers: &mut [u8]) -> Ran {
+    let (held, bytes) = (registers.as_mut_ptr(), registers.len());
+    // SAFETY: the three pointers are valid for their lengths, and `registers` overlaps nothing.
+    unsafe { run(code.as_ptr(), code.len(), text.as_ptr(), text.len(), start, held, bytes) }
+}
+
+/// Compiles a pattern into the lent code bytes.
+pub fn compile(pattern: &[u8], code: &mut [u8]) -> Compiled {
+    compile_by(millkettle_compile, pattern, code)
+}
+
+/// Tidies a pattern and compiles what is left into the lent code bytes.
+#[cfg(feature = "tidied")]
+pub fn compile_tidied(pattern: &[u8], code: &mut [u8]) -> Compiled {
+    compile_by(millkettle_compile_tidied, pattern, code)
+}
+
+/// Runs code on a text, matching at the start.
+pub fn match_at(code: &[u8], text: &[u8], start: usize, registers: &mut [u8]) -> Ran {
+    run_by(millkettle_match, code, text, start, registers)
+}
+
+/// Runs code on a text, searching from the start on.
+pub fn search(code: &[u8], text: &[u8], start: usize, registers: &mut [u8]) -> Ran {
+    run_by(millkettle_search, code, text, start, registers)
+}

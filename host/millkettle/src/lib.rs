@@ -1,0 +1,41 @@
+//! Millkettle: a regular-expression matcher whose every answer is proved, called from Rust.
+//!
+//! The pattern language is ECMA-262's without flags, look-around and back references; patterns and
+//! texts are bytes. The proved functions are in the archive `libhost.a`; this crate is a safe
+//! wrapper over them and adds nothing to their answers.
+//! A call takes some 40 KB of stack, and no memory from the heap but the wrapper's own.
+//!
+//! ```
+//! use millkettle::Pattern;
+//!
+//! let pattern = Pattern::new(b"a(b*)c")?;
+//! let found = pattern.search(b"xxabbcd", 0)?.expect("it is there");
+//! assert_eq!((found.start(), found.end()), (2, 6));
+//! assert_eq!(found.group(1), Some((3, 5)));
+//! # Ok::<(), Box<dyn std::error::Error>>(())
+//! ```
+//!
+//! A refused pattern says what is wrong with it, and where:
+//!
+//! ```
+//! let error = millkettle::Pattern::new(b"a**").unwrap_err();
+//! assert_eq!((error.number(), error.place()), (6, 2));
+//! assert_eq!(error.to_string(), "refused 6 at 2: nothing to repeat\n  a**\n    ^");
+//! ```
+#![deny(missing_docs, unsafe_code)]
+
+mod error;
+#[allow(unsafe_code)]
+mod ffi;
+mod matching;
+mod pattern;
+pub mod raw;
+
+pub use error::{PatternError, RunError};
+pub use matching::{Answer, Match};
+pub use pattern::{Entry, Pattern};
+
+/// The examples of the guide are tests as well.
+#[cfg(doctest)]
+#[doc = include_str!("../../../docs/HOST.md")]
+mod guide {}
