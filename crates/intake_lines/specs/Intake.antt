@@ -1,0 +1,80 @@
+-- What the intake program writes, whole, as a function of the bytes that it reads. Definitions only.
+use mathlib.Core.Bool.{cond}
+use mathlib.Core.List.{List, [], _∷_, _++_}
+use Prim.Native.Nat.{ℕ}
+use lib.Dec.{leb}
+use lib.IntN.{ℤ, pos}
+use lib.ListN.{length, take, replicate}
+use Rattle.meaning.specs.Text.{registersOf}
+use Rattle.meaning.specs.Limits.{groupLimit}
+use Rattle.meaning.specs.Results.{concatMap}
+use Rattle.machine.specs.Steps.{searchRow}
+use Rattle.machine.specs.Words.{groupsSaid}
+use Rattle.machine.specs.Replies.{Reply, Reply.found, Reply.missing, Reply.refused, reply, registersAfter}
+use Rattle.items.specs.Reading.{reading}
+use Rattle.compiler.specs.Compiling.{answerBy, codeLeft}
+use Rattle.compiler.specs.declared.Compilation.{Compilation}
+use Rattle.compiler.specs.declared.Compilation.the-variants.{Rows, Refused}
+use Rattle.report.specs.Texts.{spansLine, headerLine, refusedAt, refusedRun, noneLine}
+use Rattle.report.specs.Lines.{linesOf}
+
+-- The program's buffers: words of table, code and workspace, bytes of a line, and registers for as many groups as there may be.
+abbrev pub tableSize : ℕ
+tableSize = 4128
+
+abbrev pub codeSize : ℕ
+codeSize = 1164
+
+abbrev pub workspaceSize : ℕ
+workspaceSize = 8000
+
+abbrev pub lineLimit : ℕ
+lineLimit = 4096
+
+abbrev pub registerCount : ℕ
+registerCount = registersOf groupLimit
+
+-- What becomes of a pattern line, and the code that it leaves.
+abbrev pub compiled : List ℕ → Compilation
+compiled pattern = answerBy (reading pattern tableSize) codeSize
+
+abbrev pub codeFrom : List ℕ → List ℕ → List ℕ
+codeFrom pattern code = codeLeft (reading pattern tableSize) code
+
+-- The line for a pattern: its rows and groups, or the refusal's number and place.
+abbrev pub patternLine : Compilation → List ℕ
+patternLine (Rows rows groups) = headerLine rows groups
+patternLine (Refused number place) = refusedAt number place
+
+-- The line for a run's reply: its numbers, `none`, or the number by which it was turned away.
+abbrev pub replyLine : Reply → List ℤ → List ℕ
+replyLine (found executed) numbers = spansLine numbers
+replyLine (missing executed) numbers = noneLine
+replyLine (refused number) numbers = refusedRun number
+
+-- The starts and ends of all groups after a search of a line from 0.
+abbrev pub numbersFor : List ℕ → List ℕ → List ℤ
+numbersFor code line =
+    take (registersOf (groupsSaid code)) (registersAfter code line 0 (replicate registerCount (pos 0)) workspaceSize searchRow)
+
+-- The line for a text line: 21 if it is too long, else the reply to a search from 0.
+unfoldable pub lineFor : List ℕ → List ℕ → List ℕ
+lineFor code line =
+    cond (leb (length line) lineLimit)
+    (replyLine (reply code line 0 registerCount workspaceSize searchRow) (numbersFor code line))
+    (refusedRun 21)
+
+-- The lines for all text lines; a refused pattern ends the work.
+abbrev pub linesFor : Compilation → List ℕ → List (List ℕ) → List ℕ
+linesFor (Rows rows groups) code lines = concatMap (lineFor code) lines
+linesFor (Refused number place) code lines = []
+
+-- What is written for the lines that were read: the first is the pattern. No pattern line, no output.
+abbrev pub outputFor : List (List ℕ) → List ℕ
+outputFor [] = []
+outputFor (pattern ∷ lines) =
+    patternLine (compiled pattern) ++ linesFor (compiled pattern) (codeFrom pattern (replicate codeSize 0)) lines
+
+-- The program's output, for every input.
+unfoldable pub intakeOutput : List ℕ → List ℕ
+intakeOutput input = outputFor (linesOf input)

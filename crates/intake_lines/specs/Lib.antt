@@ -1,0 +1,4 @@
+pub mod Intake
+pub mod Ended
+pub mod Laws
+mod Examples
