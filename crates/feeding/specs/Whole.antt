@@ -14,7 +14,8 @@ use Rattle.items.specs.Reading.{Reading, Reading.refused, reading}
 use Rattle.compiler.specs.declared.Compilation.{Compilation}
 use Rattle.compiler.specs.declared.Compilation.the-variants.{Rows, Refused}
 use Rattle.report.specs.Lines.{linesOf, onFirst}
-use Rattle.intake_lines.specs.Intake.{tableSize, codeSize, lineLimit}
+use Rattle.intake_lines.specs.Intake.{lineLimit}
+use Rattle.meaning.specs.Limits.{tableSize, codeSize}
 use Rattle.intake_lines.specs.Intake.{lineFor, linesFor, compiled, codeFrom, patternLine, outputFor, intakeOutput}
 use Rattle.intake_lines.specs.Ended.{phaseFor, phaseThen, codeThen, textThen}
 use Rattle.intake_lines.specs.Laws.{too-long}

@@ -4,7 +4,8 @@ use mathlib.Core.List.{List, [], _∷_, _++_}
 use Prim.Native.Nat.{ℕ, _+_}
 use lib.Dec.{eqb, leb}
 use lib.ListN.{length, replicate}
-use Rattle.intake_lines.specs.Intake.{codeSize, lineLimit}
+use Rattle.intake_lines.specs.Intake.{lineLimit}
+use Rattle.meaning.specs.Limits.{codeSize}
 use Rattle.intake_lines.specs.Ended.{phaseThen, codeThen, textThen}
 use Rattle.intake_lines.specs.declared.Phase.{Phase}
 use Rattle.intake_lines.specs.declared.Phase.the-variants.{Pattern}

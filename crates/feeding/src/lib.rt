@@ -6,12 +6,12 @@ ghost use Rattle.report.specs.Wrote.{Wrote};
 ghost use Rattle.intake_lines.specs.Ended.{lineRoom};
 ghost use Rattle.feeding.specs.Work.{keptLimit, lastText};
 ghost use Rattle.feeding.specs.Fed.{workOf, Keeps, Steps, Feeds};
-use intake_lines::CODE_WORDS;
 use intake_lines::LINE_LIMIT;
 use intake_lines::LINE_ROOM;
 use intake_lines::Phase;
-use intake_lines::TABLE_WORDS;
-use intake_lines::WORKSPACE_WORDS;
+use millkettle::CODE_WORDS;
+use millkettle::TABLE_WORDS;
+use millkettle::WORKSPACE_WORDS;
 
 // LF, which ends a line.
 const LF: u8 = 10;
@@ -58,7 +58,15 @@ fn step(
     let at = fed.taken;
     if piece[at] == LF {
         let bytes: &[u8] = line;
-        let ended = intake_lines::end_line(phase, &bytes[..kept], table, code, workspace, out, fed.end);
+        let ended = intake_lines::end_line(
+            phase,
+            &bytes[..kept],
+            table,
+            code,
+            workspace,
+            out,
+            fed.end,
+        );
         let next = ended.phase;
         return Fed {
             phase: next,

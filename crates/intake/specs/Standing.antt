@@ -6,7 +6,7 @@ use native.Mathlib.Omega.{arith}
 use lib.ListN.{length, take, drop, replicate, length-drop}
 use lib.Seq.{take-all, take-add}
 use Rattle.report.specs.Wrote.{wrote-length}
-use Rattle.intake_lines.specs.Intake.{codeSize}
+use Rattle.meaning.specs.Limits.{codeSize}
 use Rattle.intake_lines.specs.Ended.{lineRoom}
 use Rattle.intake_lines.specs.declared.Phase.the-variants.{Pattern, Over}
 use Rattle.feeding.specs.Work.{Work, atFirst, keptLimit, workBehind}

@@ -7,13 +7,13 @@ ghost use Rattle.intake_lines.specs.declared.Phase.the-variants.{Over};
 ghost use Rattle.feeding.specs.Work.{keptLimit};
 ghost use Rattle.intake.specs.Standing.{Through};
 use feeding::KEPT_LIMIT;
+use intake_lines::Phase;
 use libc::STDERR_FILENO;
 use libc::STDIN_FILENO;
 use libc::STDOUT_FILENO;
-use intake_lines::CODE_WORDS;
-use intake_lines::Phase;
-use intake_lines::TABLE_WORDS;
-use intake_lines::WORKSPACE_WORDS;
+use millkettle::CODE_WORDS;
+use millkettle::TABLE_WORDS;
+use millkettle::WORKSPACE_WORDS;
 
 // Where the work stands between two pieces of the input, and how many bytes of the present line are kept.
 struct Standing {

@@ -6,7 +6,7 @@ use lib.Dec.{leb}
 use lib.IntN.{ℤ, pos}
 use lib.ListN.{length, take, replicate}
 use Rattle.meaning.specs.Text.{registersOf}
-use Rattle.meaning.specs.Limits.{groupLimit}
+use Rattle.meaning.specs.Limits.{groupLimit, tableSize, codeSize, workspaceSize}
 use Rattle.meaning.specs.Results.{concatMap}
 use Rattle.machine.specs.Steps.{searchRow}
 use Rattle.machine.specs.Words.{groupsSaid}
@@ -18,16 +18,7 @@ use Rattle.compiler.specs.declared.Compilation.the-variants.{Rows, Refused}
 use Rattle.report.specs.Texts.{spansLine, headerLine, refusedAt, refusedRun, noneLine}
 use Rattle.report.specs.Lines.{linesOf}
 
--- The program's buffers: words of table, code and workspace, bytes of a line, and registers for as many groups as there may be.
-abbrev pub tableSize : ℕ
-tableSize = 4128
-
-abbrev pub codeSize : ℕ
-codeSize = 1164
-
-abbrev pub workspaceSize : ℕ
-workspaceSize = 8000
-
+-- The bytes of a line, and registers for as many groups as there may be.
 abbrev pub lineLimit : ℕ
 lineLimit = 4096
 

@@ -19,7 +19,8 @@ use Rattle.engine.specs.declared.Answer.{Answer}
 use Rattle.engine.specs.declared.Answer.the-variants.{Found}
 use Rattle.report.specs.Texts.{refusedRun}
 use Rattle.report.specs.Wrote.{Wrote, wrote-none, wrote-as}
-use Rattle.intake_lines.specs.Intake.{tableSize, codeSize, workspaceSize, lineLimit, registerCount}
+use Rattle.intake_lines.specs.Intake.{lineLimit, registerCount}
+use Rattle.meaning.specs.Limits.{tableSize, codeSize, workspaceSize}
 use Rattle.intake_lines.specs.Intake.{compiled, patternLine, replyLine, lineFor}
 use Rattle.intake_lines.specs.Ended.{phaseFor, Ends}
 use Rattle.intake_lines.specs.declared.Phase.{Phase}

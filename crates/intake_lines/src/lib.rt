@@ -7,14 +7,11 @@ ghost use Rattle.intake_lines.specs.Ended.{lineRoom, Ends};
 ghost use Rattle.intake_lines.specs.declared.Phase.the-variants.{Pattern};
 use compiler::Compilation;
 use engine::Answer;
+use millkettle::CODE_WORDS;
+use millkettle::TABLE_WORDS;
+use millkettle::WORKSPACE_WORDS;
 
-// The program's buffers: words of table, code and workspace, and bytes of a line.
-pub const TABLE_WORDS: usize = 4128;
-
-pub const CODE_WORDS: usize = 1164;
-
-pub const WORKSPACE_WORDS: usize = 8000;
-
+// The most bytes of a line.
 pub const LINE_LIMIT: usize = 4096;
 
 // Registers for as many groups as there may be, and the most bytes that are written for a line.

@@ -42,3 +42,13 @@ textLimit = 1048576
 -- The workspace words that a run of n rows and g groups needs (refusal 24).
 abbrev pub workspaceWords : ℕ → ℕ → ℕ
 workspaceWords n g = 16 * n * (g + 2)
+
+-- The buffers of the intake program and of the host: words of table, code and workspace.
+abbrev pub tableSize : ℕ
+tableSize = 4128
+
+abbrev pub codeSize : ℕ
+codeSize = 1164
+
+abbrev pub workspaceSize : ℕ
+workspaceSize = 8000

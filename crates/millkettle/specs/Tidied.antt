@@ -105,8 +105,7 @@ also-tidied s table code n g bytes m =
     let r : Node = m .node in
     let known : Read s (atom-laws bytes) r g = what-is-read bytes (length table) r g (m .is-read) in
     let fewer : rowsNeeded (tidy r) ≤ rowsNeeded r = omega (arith, tidy-rows r (suc g) (known .numbers)) in
-    let (few, rows, emitted) = short-enough r (tidy r) n (length code) (m .is-emitted) fewer in
-    (
+    let (few, rows, emitted) = short-enough r (tidy r) n (length code) (m .is-emitted) fewer in (
       rowsNeeded (tidy r),
       ap (λ x. answerBy x (length code)) (m .is-read) ∙ rw (few, emitted),
       omega (arith, rows, fewer),
@@ -125,7 +124,7 @@ enough n m g lent h = go (leb (length (lent .text)) textLimit) (leb (lent .start
         → _≡_ {A = ℕ} (cond a (cond b (cond c (cond (leb (workspaceWords m g) (lent .workspace)) 0 24) 23) 22) 21) 0
     go true true true true e f =
         rw (le-leb (workspaceWords m g) (lent .workspace) (omega
-            (arith, few, leb-true (workspaceWords n g) (lent .workspace) e)))
+        (arith, few, leb-true (workspaceWords n g) (lent .workspace) e)))
     go true true true false e f = absurd (omega arith)
     go true true false d e f = absurd (omega arith)
     go true false c d e f = absurd (omega arith)
@@ -152,7 +151,7 @@ outcome-of (some ρ) n m = refl
 -- a program of no more rows, which finds the same, with every group the same, or nothing as well.
 pub same-answers : (way : Way) {s text : List ℕ} {start : ℕ} {table table′ table″ code code′ code″ : List ℕ}
     {registers registers′ registers″ : List ℤ} {workspace workspace′ workspace″ : List ℕ} {n g : ℕ} {compiled : Compilation}
-        {r q : Answer}
+    {r q : Answer}
     → Bytes s → Bytes text → Compiles s table table′ code code′ (Rows n g) → CompilesTidied s table table″ code code″ compiled
     → turnedAway n g (lentBy text start registers workspace) ≡ 0
     → Answered code′ text start (rowOf way) registers workspace r registers′ workspace′
@@ -171,8 +170,7 @@ same-answers way {s} {text} {start} {table} {code = code} {registers = registers
     let small : turnedAway m g lent ≡ 0 = enough n m g lent fewer room in
     let std : standardBy way text g (p .node) start ≡ standardBy way text g (tidy (t .node)) start
     = same-standard way text bt (p .node) (suc g) g start (p .is-coded .numbers) (within n g lent room)
-    ∙ ap (λ x. standardBy way text g (tidy x) start) one in
-    (
+    ∙ ap (λ x. standardBy way text g (tidy x) start) one in (
       (m, k .answers ∙ e, fewer),
       ap outcome (u .answers room) ∙ outcome-of (standardBy way text g (p .node) start) (executed r) (executed q)
           ∙ ap (λ o. outcome (answerOf o (executed q))) std ∙ sym (ap outcome (v .answers small)),

@@ -75,6 +75,6 @@ module _ (t : Tidying) where
   fixed-pattern l f =
       let no : _≡_ {A = ℕ} 1 2
       = sym empty-kind ∙ ap (λ l. getD l 0 0) (sym (t .compiles [] .table-is) ∙ f [] ∙ sym (f (bytes "a")) ∙ t .compiles
-          (bytes "a") .table-is)
+      (bytes "a") .table-is)
       ∙ set-kind in
       omega arith
