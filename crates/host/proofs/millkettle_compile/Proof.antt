@@ -1,0 +1,16 @@
+-- The call on lent bytes answers.
+use borrow.Author.Needs.{needs}
+use Rattle.host.proofs.millkettle_compile.Statement.{statement}
+use Rattle.host.proofs.millkettle_compile.Tie as tie
+
+compile-lent-requires : tie.Need-compile-lent-requires
+compile-lent-requires c κs = search needs
+
+same-length : tie.Need-same-length
+same-length c = search needs
+
+returns : tie.Need-returns
+returns c = c .before .before .compile-lent .ensures
+
+pub millkettle-compile-spec : {M : Type 1} → statement M
+millkettle-compile-spec = tie.close (tie.spec compile-lent-requires same-length returns)

@@ -1,0 +1,207 @@
+// Millkettle for programs in other languages: numbers and byte slices, words as four bytes, low byte first. The header
+// millkettle.h says it in C.
+ghost use mathlib.Core.Path.{_≡_};
+ghost use mathlib.Core.Bool.{true, false, cond};
+ghost use Prim.Native.Nat.{min};
+ghost use lib.ListN.{length};
+ghost use Rattle.machine.specs.Steps.{searchRow, matchRow};
+ghost use Rattle.engine.specs.Answers.{replyOf, Answered};
+ghost use Rattle.host.specs.Surface.{compiledNumbers, ranNumbers, lentWords, CompilesOne, CompilesBytes, RunsBytes};
+use compiler::Compilation;
+use engine::Answer;
+use millkettle::CODE_WORDS;
+use millkettle::TABLE_WORDS;
+use millkettle::WORKSPACE_WORDS;
+use wire::load_ints;
+use wire::load_words;
+use wire::store_ints;
+use wire::store_words;
+
+// The most registers that a run writes: two for each group and for the whole match.
+const REGISTERS: usize = 2 * (passing::GROUP_LIMIT as usize + 1);
+
+// What compiling answers: 0, the rows and the groups; or the number of a refusal and its place.
+#[repr(C)]
+pub struct Compiled {
+    pub number: u32,
+    pub rows: u32,
+    pub groups: u32,
+    pub place: usize,
+}
+
+// What a run answers: 0, found (1) or none (0) and the count of rows executed; or the number of a refusal, at place 0.
+#[repr(C)]
+pub struct Ran {
+    pub number: u32,
+    pub found: u32,
+    pub place: usize,
+    pub count: u64,
+}
+
+// The numbers passed for each case of the answer.
+fn compiled_numbers(answer: Compilation) -> Compiled
+    ensures { λ r. ⌜ r ≡ compiledNumbers answer ⌝ }
+{
+    match answer {
+        Compilation::Rows { rows, groups } => Compiled {
+            number: 0,
+            rows,
+            groups,
+            place: 0,
+        },
+        Compilation::Refused { number, place } => Compiled {
+            number,
+            rows: 0,
+            groups: 0,
+            place,
+        },
+    }
+}
+
+// The numbers passed for each case of the answer.
+fn ran_numbers(answer: Answer) -> Ran
+    ensures { λ r. ⌜ r ≡ ranNumbers (replyOf answer) ⌝ }
+{
+    match answer {
+        Answer::Found(count) => Ran {
+            number: 0,
+            found: 1,
+            place: 0,
+            count,
+        },
+        Answer::Missing(count) => Ran {
+            number: 0,
+            found: 0,
+            place: 0,
+            count,
+        },
+        Answer::Refused(number) => Ran {
+            number,
+            found: 0,
+            place: 0,
+            count: 0,
+        },
+    }
+}
+
+// The words that so many bytes lend, at most so many of them: a part word counts as not lent.
+fn lent_words(bytes: usize, most: usize) -> usize
+    ensures { λ r. ⌜ r ≡ min (lentWords bytes) most ⌝ }
+{
+    let whole = bytes / 4;
+    if whole < most {
+        return whole;
+    }
+    most
+}
+
+// Compiling the tidied pattern, or the plain one.
+fn code_for(tidying: bool, pattern: &[u8], table: &mut [u32], code: &mut [u32]) -> Compilation
+    ensures { λ r. ⌜ CompilesOne tidying (now (pattern .entry)) (length (now (table .entry))) (now (code .entry))
+        (now (code .exit)) r ⌝ }
+{
+    if tidying {
+        return millkettle::compile_tidied(pattern, table, code);
+    }
+    millkettle::compile(pattern, table, code)
+}
+
+// A pattern compiled into lent bytes, with table and code words of our own.
+fn compile_lent(tidying: bool, pattern: &[u8], code: &mut [u8]) -> Compiled
+    ensures { λ r. ⌜ CompilesBytes tidying (now (pattern .entry)) (now (code .entry)) r (now (code .exit)) ⌝ }
+{
+    let mut table = [0u32; TABLE_WORDS];
+    let mut inside = [0u32; CODE_WORDS];
+    let room = lent_words(code.len(), CODE_WORDS);
+    let words = &mut inside[..room];
+    load_words(code, words);
+    let answer = code_for(tidying, pattern, &mut table, words);
+    store_words(words, code);
+    compiled_numbers(answer)
+}
+
+// Compiles a pattern into lent bytes. Answers 0 with the rows and groups, and the code's bytes stand in front of those
+// that stood behind them; or the number and place of a refusal, and all bytes are as they were.
+#[no_mangle]
+pub extern "C" fn millkettle_compile(pattern: &[u8], code: &mut [u8]) -> Compiled
+    ensures { λ r. ⌜ CompilesBytes false (now (pattern .entry)) (now (code .entry)) r (now (code .exit)) ⌝ }
+{
+    compile_lent(false, pattern, code)
+}
+
+// Compiles the tidied pattern. Answers as `millkettle_compile` does, but 16 is by the tidied pattern's rows.
+#[no_mangle]
+pub extern "C" fn millkettle_compile_tidied(pattern: &[u8], code: &mut [u8]) -> Compiled
+    ensures { λ r. ⌜ CompilesBytes true (now (pattern .entry)) (now (code .entry)) r (now (code .exit)) ⌝ }
+{
+    compile_lent(true, pattern, code)
+}
+
+// Searching from the start on, or matching at it.
+fn answer_from(
+    searching: bool,
+    code: &[u32],
+    text: &[u8],
+    start: usize,
+    registers: &mut [i32],
+    workspace: &mut [u32],
+) -> Answer
+    ensures { λ r. ⌜ Answered (now (code .entry)) (now (text .entry)) start (cond searching searchRow matchRow)
+        (now (registers .entry)) (now (workspace .entry)) r (now (registers .exit)) (now (workspace .exit)) ⌝ }
+{
+    if searching {
+        return millkettle::search(code, text, start, registers, workspace);
+    }
+    millkettle::match_at(code, text, start, registers, workspace)
+}
+
+// A run on lent bytes: too much code is turned away, and else the run inside answers.
+fn run_lent(searching: bool, code: &[u8], text: &[u8], start: usize, registers: &mut [u8]) -> Ran
+    ensures { λ r. ⌜ RunsBytes (cond searching searchRow matchRow) (now (code .entry)) (now (text .entry)) start
+        (now (registers .entry)) r (now (registers .exit)) ⌝ }
+{
+    let lent = code.len() / 4;
+    if lent > CODE_WORDS {
+        return ran_numbers(Answer::Refused(engine::CODE_FAILS));
+    }
+    let mut inside = [0u32; CODE_WORDS];
+    let words = &mut inside[..lent];
+    load_words(code, words);
+    let mut slots = [0i32; REGISTERS];
+    let used = lent_words(registers.len(), REGISTERS);
+    let spans = &mut slots[..used];
+    load_ints(registers, spans);
+    let mut workspace = [0u32; WORKSPACE_WORDS];
+    let answer = answer_from(searching, words, text, start, spans, &mut workspace);
+    store_ints(spans, registers);
+    ran_numbers(answer)
+}
+
+// Matches at the start. Answers 0 with found or none and the count, and the registers' bytes stand in front of those
+// that stood behind them; or the number of a refusal, and all bytes are as they were.
+#[no_mangle]
+pub extern "C" fn millkettle_match(
+    code: &[u8],
+    text: &[u8],
+    start: usize,
+    registers: &mut [u8],
+) -> Ran
+    ensures { λ r. ⌜ RunsBytes matchRow (now (code .entry)) (now (text .entry)) start (now (registers .entry)) r
+        (now (registers .exit)) ⌝ }
+{
+    run_lent(false, code, text, start, registers)
+}
+
+// Searches from the start on, for the first position that matches. Answers as `millkettle_match` does.
+#[no_mangle]
+pub extern "C" fn millkettle_search(
+    code: &[u8],
+    text: &[u8],
+    start: usize,
+    registers: &mut [u8],
+) -> Ran
+    ensures { λ r. ⌜ RunsBytes searchRow (now (code .entry)) (now (text .entry)) start (now (registers .entry)) r
+        (now (registers .exit)) ⌝ }
+{
+    run_lent(true, code, text, start, registers)
+}

@@ -1,0 +1,81 @@
+/* Lines of the outline, called from C. Writes nothing and ends with 0 if all hold; else says which does not. */
+#include "../millkettle.h"
+
+int printf(const char *format, ...);
+
+static uint8_t code[MILLKETTLE_CODE_BYTES + 4];
+static uint8_t registers[MILLKETTLE_REGISTER_BYTES + 3];
+static int failed = 0;
+
+static void expect(int holds, const char *line) {
+    if (!holds) {
+        printf("does not hold: %s\n", line);
+        failed = 1;
+    }
+}
+
+static size_t length(const char *s) {
+    size_t n = 0;
+    while (s[n] != 0) {
+        n++;
+    }
+    return n;
+}
+
+static void fill(uint8_t *bytes, size_t n, uint8_t value) {
+    for (size_t i = 0; i < n; i++) {
+        bytes[i] = value;
+    }
+}
+
+static int32_t register_at(size_t i) {
+    const uint8_t *b = registers + 4 * i;
+    return (int32_t)((uint32_t)b[0] | (uint32_t)b[1] << 8 | (uint32_t)b[2] << 16 | (uint32_t)b[3] << 24);
+}
+
+static millkettle_compiled compile(const char *pattern) {
+    return millkettle_compile((const uint8_t *)pattern, length(pattern), code, MILLKETTLE_CODE_BYTES);
+}
+
+static millkettle_ran run(int searching, const char *text, size_t start, size_t registers_len) {
+    fill(registers, sizeof registers, 0x55);
+    const uint8_t *bytes = (const uint8_t *)text;
+    if (searching) {
+        return millkettle_search(code, MILLKETTLE_CODE_BYTES, bytes, length(text), start, registers, registers_len);
+    }
+    return millkettle_match(code, MILLKETTLE_CODE_BYTES, bytes, length(text), start, registers, registers_len);
+}
+
+int main(void) {
+    fill(code, sizeof code, 0x55);
+    millkettle_compiled c = compile("a|ab");
+    expect(c.number == 0 && c.rows == 13 && c.groups == 0 && c.place == 0, "a|ab has 13 rows and no group");
+    expect(code[0] == 13 && code[1] == 0 && code[48 * 14] == 0x55, "the first word is 13, and bytes behind the code stay");
+    millkettle_ran r = run(0, "ab", 0, 11);
+    expect(r.number == 0 && r.found == 1 && register_at(0) == 0 && register_at(1) == 1, "a|ab on ab: 0,1");
+    expect(registers[8] == 0x55 && registers[10] == 0x55, "bytes behind the two registers stay");
+    r = run(0, "ab", 0, 7);
+    expect(r.number == 23 && r.found == 0 && r.count == 0 && registers[0] == 0x55, "seven bytes are one register: 23");
+
+    c = compile("(a*)b");
+    r = run(1, "caabd", 0, MILLKETTLE_REGISTER_BYTES);
+    expect(c.number == 0 && c.groups == 1 && r.number == 0 && r.found == 1, "(a*)b searched in caabd: found");
+    expect(register_at(0) == 1 && register_at(1) == 4 && register_at(2) == 1 && register_at(3) == 3, "1,4; 1,3");
+
+    c = compile("a");
+    r = run(1, "b", 0, MILLKETTLE_REGISTER_BYTES);
+    expect(c.number == 0 && r.number == 0 && r.found == 0 && r.count == 13, "a searched in b: none, 13");
+    expect(register_at(0) == MILLKETTLE_UNSET && register_at(1) == MILLKETTLE_UNSET, "on none the registers are -1");
+    expect(run(0, "a", 2, MILLKETTLE_REGISTER_BYTES).number == 22, "a in a from 2: refusal 22");
+    r = millkettle_match(code, MILLKETTLE_CODE_BYTES + 4, (const uint8_t *)"a", 1, 0, registers, sizeof registers);
+    expect(r.number == 20 && r.place == 0 && r.count == 0, "4,660 bytes of code: refusal 20");
+
+    c = millkettle_compile_tidied((const uint8_t *)"(?:a*)*", 7, code, MILLKETTLE_CODE_BYTES);
+    expect(c.number == 0 && c.rows == 13 && c.groups == 0, "(?:a*)* tidied is a*, which has 13 rows");
+    r = run(0, "aab", 0, MILLKETTLE_REGISTER_BYTES);
+    expect(r.number == 0 && r.found == 1 && register_at(0) == 0 && register_at(1) == 2, "it matches 0,2 in aab");
+
+    c = compile("a**");
+    expect(c.number == 6 && c.place == 2 && c.rows == 0 && c.groups == 0, "a** refuses 6 at 2");
+    return failed;
+}
