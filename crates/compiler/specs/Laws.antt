@@ -25,7 +25,8 @@ use Rattle.rows.specs.Program.{Tabled}
 use Rattle.rows.specs.Emission.{emission, SomeTabled, Emits, rowsNeeded, emitted-passes}
 use Rattle.rows.specs.declared.Emission.{Emission}
 use Rattle.rows.specs.declared.Emission.the-variants.{Rows as Emitted, TooMany, TooShort}
-use Rattle.compiler.specs.Compiling.{answerFor, tableFor, answerBy, tableLeft, codeLeft, compilation, codeAt, Compiles, Cleared}
+use Rattle.compiler.specs.Compiling.{answerFor, tableFor, answerBy, tableLeft}
+use Rattle.compiler.specs.Compiling.{codeLeft, compilation, codeAt, Compiles, Cleared}
 use Rattle.compiler.specs.declared.Compilation.{Compilation}
 use Rattle.compiler.specs.declared.Compilation.the-variants.{Rows, Refused}
 

@@ -29,7 +29,10 @@ module _ {line : List ℕ} (kept byte : ℕ) (long : length line ≡ keptLimit) 
   pub kept-more : kept < keptLimit → Keeps kept byte line (set line kept byte) (kept + 1)
   kept-more h =
       record {
-        line-is = rw (lt-leb keptLimit (length (take kept line)) (omega (arith, length-take-le kept line (omega arith))), add-one)
+        line-is = rw (
+          lt-leb keptLimit (length (take kept line)) (omega (arith, length-take-le kept line (omega arith))),
+          add-one,
+        )
             (take-suc-set line kept byte (omega arith));
         few = omega arith;
       }

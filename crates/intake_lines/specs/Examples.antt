@@ -27,7 +27,8 @@ outline-lines : (intakeOutput (bytes "a|ab" ++ lf ++ bytes "ab" ++ lf ++ bytes "
     × (intakeOutput (bytes "a**" ++ lf ++ bytes "ab" ++ lf) ≡ bytes "refused 6 at 2" ++ lf)
     × (intakeOutput [] ≡ [])
 unfolding intakeOutput lineFor linesOf headerLine refusedAt refusedRun noneLine spansLine spaced further shownNumber decimal
-    digits reading alternativesGo sequenceGo itemAt itemBy openingAt quantifierAt bracesAt numberAt numberGo classAt classGo classAtom
+    digits reading alternativesGo sequenceGo itemAt itemBy openingAt quantifierAt bracesAt numberAt numberGo classAt classGo
+    classAtom
     escapeAt parts isDigit isWord isDot sizeOf rowsOf past anyByte setOf wordOf has bit lo hi codeOf
     refusal reply registersAfter rowsPass codePasses rowIn run steps unset fits holdsAt asserts opened closed cleared wiped
 outline-lines = (refl, refl, refl, refl)

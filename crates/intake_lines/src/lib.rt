@@ -1,4 +1,5 @@
-// The intake program's lines: a pattern line is compiled, a text line searched, and what is written for it goes to a lent buffer.
+// The intake program's lines: a pattern line is compiled, a text line searched, and what is written for it goes to a
+// lent buffer.
 ghost use Prim.Native.Nat.{_+_, _≤_};
 ghost use lib.ListN.{length};
 ghost use Rattle.report.specs.Wrote.{Wrote};

@@ -66,7 +66,12 @@ module _ (s : List ℕ) (laws : AtomLaws s) where
   leaf : (d at at′ g : ℕ) (r : Node) → g ≤ groupLimit → at < at′ → at′ ≤ length s → Flat r → Numbers (suc g) r (suc g) → Fair r d
       → recordCount r ≡ 1 → Item s d at g r at′ g
   leaf d at at′ g r few on within flat numbers fair one =
-      record { kept = record { within = within; flat = flat; numbers = numbers; fair = fair; fewGroups = few }; on = on; few = omega arith }
+      record {
+        kept = record { within = within; flat = flat; numbers = numbers; fair = fair; fewGroups = few };
+        on = on;
+        few =
+            omega arith;
+      }
 
   set-item : (d at0 at g : ℕ) (set : List ℕ) → g ≤ groupLimit → at0 < at → at ≤ length s → Formed set
       → Ok (Item s d at0 g) (setItem s set at g)
@@ -225,7 +230,14 @@ module _ (s : List ℕ) (laws : AtomLaws s) where
         past-bar at′ g′ l′ e more =
             let b : byteAt s at′ ≡ bar = eqb-true (byteAt s at′) bar e in
             let lt : at′ < length s = byte-within s at′ bar b (λ x. omega arith) in
-            record { within = omega arith; fit = more .fit; fair = more .fair; numbers = more .numbers; fewGroups = more .fewGroups }
+            record {
+              within = omega arith;
+              fit = more .fit;
+              fair = more .fair;
+              numbers = more .numbers;
+              fewGroups = more
+                  .fewGroups;
+            }
 
     pub alternatives-by : (at g : ℕ) → at ≤ length s → g ≤ groupLimit → Ok (Stretch s d at g) (alternativesBy item s at g)
     alternatives-by at g within few =

@@ -1,5 +1,5 @@
-// The questions: `match 0 PATTERN`, `search 0 PATTERN` and `find 0 PATTERN` with the start, `compile PATTERN`, `tidied PATTERN`, and
-// `rows` with rows by hand.
+// The questions: `match 0 PATTERN`, `search 0 PATTERN` and `find 0 PATTERN` with the start, `compile PATTERN` and
+// `tidied PATTERN`, and `rows` with rows by hand.
 ghost use Prim.Native.Nat.{_<_, _≤_};
 ghost use lib.ListN.{length};
 use crate::answers;

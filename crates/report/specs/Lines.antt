@@ -76,7 +76,8 @@ module _ (text : List ℕ) (to r : ℕ) (inside : to ≤ length text) (found : r
       by false e =
           let l : to ≤ r = ltb-false r to e in
           let s : slice r to text ≡ [] = drop-of-length-le (take to text) {i = r} (omega (arith, length-take to text)) in
-          let s′ : slice (suc r) to text ≡ [] = drop-of-length-le (take to text) {i = suc r} (omega (arith, length-take to text)) in
+          let s′ : slice (suc r) to text ≡ [] = drop-of-length-le (take to text) {i = suc r}
+          (omega (arith, length-take to text)) in
           record { first = rw (s, slice-empty); rest = rw (s, s′) }
 
   -- A byte before it that is no LF is the line's.

@@ -98,7 +98,8 @@ pub fn put_spans(out: &mut [u8], at: usize, registers: &[i32], count: usize) -> 
 // A line of two numbers, each after a text.
 fn put_two(out: &mut [u8], at: usize, first: &[u8], m: u64, second: &[u8], n: u64) -> usize
     requires { ⌜ at + length (now first) + length (now second) + 41 ≤ length (now out) ⌝ }
-    ensures { λ r. ⌜ Wrote (now (out .entry)) (now (out .exit)) at (twoNumbers (now (first .entry)) m (now (second .entry)) n) r ⌝ }
+    ensures { λ r. ⌜ Wrote (now (out .entry)) (now (out .exit)) at (twoNumbers (now (first .entry)) m (now (second .entry)) n)
+        r ⌝ }
 {
     let a = put_text(out, at, first);
     let b = put_decimal(out, a, m);

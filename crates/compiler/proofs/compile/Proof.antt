@@ -26,7 +26,9 @@ enum-known-records c = search needs
 
 -- src/lib.rt:33:55
 emit-requires : tie.Need-emit-requires
-emit-requires c κs = given-some (given (bytes-of _ ((c .before .before .before .before .before .before .before .before .before .before .before .shared-slice-known) .given)) ((c .before .before .before .before .before .before .before .read) .ensures) ((c .before .before .before .records) .given .1))
+emit-requires c κs = given-some (given (bytes-of _ ((c .before .before .before .before .before .before .before .before .before
+    .before .before .shared-slice-known) .given)) ((c .before .before .before .before .before .before .before .read) .ensures)
+    ((c .before .before .before .records) .given .1))
 
 -- src/lib.rt:34:28
 enum-known-rows : tie.Need-enum-known-rows
@@ -67,7 +69,10 @@ same-length-3 c = search needs
 -- src/lib.rt:27:1
 returns-2 : tie.Need-returns-2
 returns-2 c =
-    let known = given (bytes-of _ ((c .before .before .before .before .before .before .before .before .before .before .before .before .before .before .before .before .before .shared-slice-known) .given)) ((c .before .before .before .before .before .before .before .before .before .before .before .before .before .read) .ensures) ((c .before .before .before .before .before .before .before .before .before .records) .given .1) in
+    let known = given (bytes-of _ ((c .before .before .before .before .before .before .before .before .before .before .before
+    .before .before .before .before .before .before .shared-slice-known) .given))
+    ((c .before .before .before .before .before .before .before .before .before .before .before .before .before .read)
+    .ensures) ((c .before .before .before .before .before .before .before .before .before .records) .given .1) in
     made _ known ((c .before .before .before .before .before .emit) .ensures) ((c .before .rows) .given .1) refl
 
 -- src/lib.rt:27:1
@@ -81,8 +86,13 @@ same-length-5 c = search needs
 -- src/lib.rt:27:1
 returns-3 : tie.Need-returns-3
 returns-3 c =
-    let known = given (bytes-of _ ((c .before .before .before .before .before .before .before .before .before .before .before .before .before .before .before .before .before .before .before .before .shared-slice-known) .given)) ((c .before .before .before .before .before .before .before .before .before .before .before .before .before .before .before .before .read) .ensures) ((c .before .before .before .before .before .before .before .before .before .before .before .before .records) .given .1) in
-    unmade TooMany known ((c .before .before .before .before .before .before .before .before .emit) .ensures) ((c .before .before .before .before .enum-told) .given .1) ((c .before .before .without-program) .ensures) refl refl
+    let known = given (bytes-of _ ((c .before .before .before .before .before .before .before .before .before .before .before
+    .before .before .before .before .before .before .before .before .before .shared-slice-known) .given))
+    ((c .before .before .before .before .before .before .before .before .before .before .before .before .before
+    .before .before .before .read) .ensures) ((c .before .before .before .before .before .before .before .before
+    .before .before .before .before .records) .given .1) in
+    unmade TooMany known ((c .before .before .before .before .before .before .before .before .emit) .ensures)
+    ((c .before .before .before .before .enum-told) .given .1) ((c .before .before .without-program) .ensures) refl refl
 
 -- src/lib.rt:27:1
 same-length-6 : tie.Need-same-length-6
@@ -95,8 +105,13 @@ same-length-7 c = search needs
 -- src/lib.rt:27:1
 returns-4 : tie.Need-returns-4
 returns-4 c =
-    let known = given (bytes-of _ ((c .before .before .before .before .before .before .before .before .before .before .before .before .before .before .before .before .before .before .before .before .shared-slice-known) .given)) ((c .before .before .before .before .before .before .before .before .before .before .before .before .before .before .before .before .read) .ensures) ((c .before .before .before .before .before .before .before .before .before .before .before .before .records) .given .1) in
-    unmade TooShort known ((c .before .before .before .before .before .before .before .before .emit) .ensures) ((c .before .before .before .before .enum-told2) .given .1) ((c .before .before .without-program2) .ensures) refl refl
+    let known = given (bytes-of _ ((c .before .before .before .before .before .before .before .before .before .before .before
+    .before .before .before .before .before .before .before .before .before .shared-slice-known) .given))
+    ((c .before .before .before .before .before .before .before .before .before .before .before .before .before
+    .before .before .before .read) .ensures) ((c .before .before .before .before .before .before .before .before
+    .before .before .before .before .records) .given .1) in
+    unmade TooShort known ((c .before .before .before .before .before .before .before .before .emit) .ensures)
+    ((c .before .before .before .before .enum-told2) .given .1) ((c .before .before .without-program2) .ensures) refl refl
 
 pub compile-spec : {M : Type 1} → statement M
 compile-spec =

@@ -93,5 +93,6 @@ all-taken c =
 pub work-through-spec : {M : Type 1} → statement M
 work-through-spec =
     tie.close
-    (tie.spec Inv-loop μ-loop loop-holds (λ c. omega arith) (λ c. omega arith) (λ c. omega arith) feed-requires end-fits end-count
+    (tie.spec Inv-loop μ-loop loop-holds (λ c. omega arith) (λ c. omega arith) (λ c. omega arith) feed-requires end-fits
+    end-count
     (λ c κs. search needs) (λ c κs. search needs) same-length not-sent add-from loop-less loop-again same-length-2 all-taken)

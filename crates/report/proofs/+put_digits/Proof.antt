@@ -30,7 +30,8 @@ module _ (t : ℕ) where
   cast-put-byte : lts.Need-cast-put-byte (put-byte.Asked, put-byte.Learnt, below t, put-digits.Post) (at-most t) put-digits.Post
   cast-put-byte c = omega arith
 
-  put-byte-requires : lts.Need-put-byte-requires (put-byte.Asked, put-byte.Learnt, below t, put-digits.Post) (at-most t) put-digits.Post
+  put-byte-requires : lts.Need-put-byte-requires (put-byte.Asked, put-byte.Learnt, below t, put-digits.Post) (at-most t)
+      put-digits.Post
   put-byte-requires c κs = omega (arith, decimal-some (c .before .before .before .args .value))
 
   same-length : lts.Need-same-length (put-byte.Asked, put-byte.Learnt, below t, put-digits.Post) (at-most t) put-digits.Post
@@ -38,33 +39,44 @@ module _ (t : ℕ) where
 
   returns : lts.Need-returns (put-byte.Asked, put-byte.Learnt, below t, put-digits.Post) (at-most t) put-digits.Post
   returns c =
-      wrote-as (c .before .before .put-byte .ensures) (sym (decimal-one (c .before .before .before .before .before .before .args .value) (c .before .before .before .before .if1 .taken))) refl
+      wrote-as (c .before .before .put-byte .ensures) (sym (decimal-one
+      (c .before .before .before .before .before .before .args .value) (c .before .before .before .before .if1 .taken))) refl
 
-  put-digits-requires : lts.Need-put-digits-requires (put-byte.Asked, put-byte.Learnt, below t, put-digits.Post) (at-most t) put-digits.Post
+  put-digits-requires : lts.Need-put-digits-requires (put-byte.Asked, put-byte.Learnt, below t, put-digits.Post) (at-most t)
+      put-digits.Post
   put-digits-requires c κs =
       let longer = decimal-longer (c .before .before .before .args .value) (c .before .if1 .left) in
       (omega arith, omega arith)
 
-  add-put-byte-2 : lts.Need-add-put-byte-2 (put-byte.Asked, put-byte.Learnt, below t, put-digits.Post) (at-most t) put-digits.Post
+  add-put-byte-2 : lts.Need-add-put-byte-2 (put-byte.Asked, put-byte.Learnt, below t, put-digits.Post) (at-most t)
+      put-digits.Post
   add-put-byte-2 c = omega arith
 
-  cast-put-byte-2 : lts.Need-cast-put-byte-2 (put-byte.Asked, put-byte.Learnt, below t, put-digits.Post) (at-most t) put-digits.Post
+  cast-put-byte-2 : lts.Need-cast-put-byte-2 (put-byte.Asked, put-byte.Learnt, below t, put-digits.Post) (at-most t)
+      put-digits.Post
   cast-put-byte-2 c = omega arith
 
-  put-byte-requires-2 : lts.Need-put-byte-requires-2 (put-byte.Asked, put-byte.Learnt, below t, put-digits.Post) (at-most t) put-digits.Post
+  put-byte-requires-2 : lts.Need-put-byte-requires-2 (put-byte.Asked, put-byte.Learnt, below t, put-digits.Post) (at-most t)
+      put-digits.Post
   put-byte-requires-2 c κs =
-      let longer = decimal-longer (c .before .before .before .before .before .before .before .args .value) (c .before .before .before .before .before .if1 .left) in
+      let longer = decimal-longer (c .before .before .before .before .before .before .before .args .value)
+      (c .before .before .before .before .before .if1 .left) in
       omega (arith, c .before .before .before .put-digits .ensures .next, c .before .before .before .put-digits .kept .0)
 
   same-length-2 : lts.Need-same-length-2 (put-byte.Asked, put-byte.Learnt, below t, put-digits.Post) (at-most t) put-digits.Post
-  same-length-2 c = c .before .before .put-byte2 .kept .0 ∙ c .before .before .before .before .before .before .put-digits .kept .0
+  same-length-2 c = c .before .before .put-byte2 .kept .0 ∙ c .before .before .before .before .before .before .put-digits
+      .kept .0
 
   returns-2 : lts.Need-returns-2 (put-byte.Asked, put-byte.Learnt, below t, put-digits.Post) (at-most t) put-digits.Post
   returns-2 c =
-      let more = decimal-more (c .before .before .before .before .before .before .before .before .before .before .args .value) (c .before .before .before .before .before .before .before .before .if1 .left) in
-      wrote-as (and-then (c .before .before .before .before .before .before .put-digits .ensures) (c .before .before .put-byte2 .ensures)) (sym more) refl
+      let more = decimal-more (c .before .before .before .before .before .before .before .before .before .before .args .value)
+      (c .before .before .before .before .before .before .before .before .if1 .left) in
+      wrote-as (and-then (c .before .before .before .before .before .before .put-digits .ensures)
+      (c .before .before .put-byte2 .ensures)) (sym more) refl
 
 pub +put-digits-spec : {M : Type 1} → statement M
-+put-digits-spec = close μ-put-digits λ t. lts.spec (put-byte.Asked, put-byte.Learnt, below t, put-digits.Post) (at-most t) put-digits.Post
-    (add-put-byte t) (cast-put-byte t) (put-byte-requires t) (same-length t) (returns t) (put-digits-requires t) (add-put-byte-2 t)
++put-digits-spec = close μ-put-digits λ t. lts.spec (put-byte.Asked, put-byte.Learnt, below t, put-digits.Post) (at-most t)
+    put-digits.Post
+    (add-put-byte t) (cast-put-byte t) (put-byte-requires t) (same-length t) (returns t) (put-digits-requires t)
+    (add-put-byte-2 t)
     (cast-put-byte-2 t) (put-byte-requires-2 t) (same-length-2 t) (returns-2 t)

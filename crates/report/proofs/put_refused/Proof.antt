@@ -15,7 +15,8 @@ put-byte-requires c κs =
 returns : tie.Need-returns
 unfolding refusedRun
 returns c =
-    and-then (and-then (c .before .before .before .before .before .before .before .before .before .before .put-text .ensures) (c .before .before .before .before .before .before .put-decimal .ensures)) (c .before .before .put-byte .ensures)
+    and-then (and-then (c .before .before .before .before .before .before .before .before .before .before .put-text .ensures)
+    (c .before .before .before .before .before .before .put-decimal .ensures)) (c .before .before .put-byte .ensures)
 
 pub put-refused-spec : {M : Type 1} → statement M
 put-refused-spec =

@@ -67,13 +67,15 @@ put-number-requires c κs = omega (arith, c .before .before .if1 .left)
 
 loop-holds : tie.Need-loop-holds Inv-loop μ-loop
 loop-holds c =
-    let end : c .before .before .put-number .result ≡ start c .args .at + length (shownNumber (getD (registers c) 0 (pos 0))) = first c .next in
+    let end : c .before .before .put-number .result ≡ start c .args .at + length (shownNumber (getD (registers c) 0 (pos 0)))
+    = first c .next in
     let short = shown-short (getD (registers c) 0 (pos 0)) (fits c .sfits) in
     let long = wrote-length (first c) in (
       search needs,
       some c,
       omega arith,
-      wrote-as (wrote-none (c .before .before .put-number .last .0) (c .before .before .put-number .result) (omega (arith, some c)))
+      wrote-as (wrote-none (c .before .before .put-number .last .0) (c .before .before .put-number .result)
+          (omega (arith, some c)))
           (sym (further-none (registers c))) refl,
     )
 
@@ -81,7 +83,12 @@ put-byte-requires-2 : tie.Need-put-byte-requires-2 Inv-loop μ-loop
 put-byte-requires-2 c κs = omega (arith, long (c .before .before), c .before .loop-test .taken)
 
 put-number-requires-2 : tie.Need-put-number-requires-2 Inv-loop μ-loop
-put-number-requires-2 c κs = omega (arith, long (c .before .before .before .before .before .before .before), c .before .before .before .before .before .before .loop-test .taken)
+put-number-requires-2 c κs = omega (
+  arith,
+  long (c .before .before .before .before .before .before .before),
+  c .before .before
+      .before .before .before .before .loop-test .taken,
+)
 
 loop-again : tie.Need-loop-again Inv-loop μ-loop
 loop-again c =
@@ -95,7 +102,8 @@ loop-again c =
       search needs,
       omega arith,
       omega (arith, number .next, c .before .before .before .before .before .before .before .put-byte2 .ensures .next),
-      wrote-as (and-then (and-then (turn .loop .inv .3) (c .before .before .before .before .before .before .before .put-byte2 .ensures)) number)
+      wrote-as (and-then (and-then (turn .loop .inv .3) (c .before .before .before .before .before .before .before .put-byte2
+          .ensures)) number)
           (sym (further-more (registers (turn .before)) i (turn .loop .inv .0) (omega arith))) refl,
     )
 
@@ -109,14 +117,18 @@ line : tie.Need-returns-2 Inv-loop μ-loop
 line c =
     let here = c .before .before .before .before .before .before in
     let count = start here .args .count in
-    let all : c .before .before .before .before .before .loop .i ≡ count = omega (arith, c .before .before .before .before .loop-test .left) in
-    wrote-as (and-then (and-then (first here) (c .before .before .before .before .before .loop .inv .3)) (c .before .before .put-byte3 .ensures))
+    let all : c .before .before .before .before .before .loop .i ≡ count = omega
+    (arith, c .before .before .before .before .loop-test .left) in
+    wrote-as (and-then (and-then (first here) (c .before .before .before .before .before .loop .inv .3))
+    (c .before .before .put-byte3 .ensures))
     (ap (λ n. shownNumber (getD (registers here) 0 (pos 0)) ++ further (slice 1 n (registers here)) ++ lf) all
     ∙ spans-some (registers here) count (some here) (start here .pre .0)) refl
 
 pub put-spans-spec : {M : Type 1} → statement M
 put-spans-spec =
     tie.close
-    (tie.spec Inv-loop μ-loop (λ c κs. search needs) same-length nothing copy-out put-number-requires loop-holds put-byte-requires-2
-    (λ c. omega arith) (λ c. omega arith) put-number-requires-2 (λ c. omega arith) (λ c. omega arith) loop-again put-byte-requires-3
+    (tie.spec Inv-loop μ-loop (λ c κs. search needs) same-length nothing copy-out put-number-requires loop-holds
+    put-byte-requires-2
+    (λ c. omega arith) (λ c. omega arith) put-number-requires-2 (λ c. omega arith) (λ c. omega arith) loop-again
+    put-byte-requires-3
     same-length-2 line)

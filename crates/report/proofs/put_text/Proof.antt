@@ -37,5 +37,6 @@ returns c = wrote-as (c .before .loop .inv .1) (take-all _ _ (c .loop-test .left
 pub put-text-spec : {M : Type 1} → statement M
 put-text-spec =
     tie.close
-    (tie.spec Inv-loop μ-loop loop-holds (λ c. search needs) (λ c. omega arith) slice-write-out (λ c. omega arith) (λ c. omega arith) loop-again
+    (tie.spec Inv-loop μ-loop loop-holds (λ c. search needs) (λ c. omega arith) slice-write-out (λ c. omega arith)
+    (λ c. omega arith) loop-again
     (λ c. omega arith) same-length returns)

@@ -13,12 +13,14 @@ put-text-requires-2 c κs =
 
 put-decimal-requires-2 : tie.Need-put-decimal-requires-2
 put-decimal-requires-2 c κs =
-    let start = c .before .before .before .before .before .before .before .before .before .before .before .before .before .before .before .before in
+    let start = c .before .before .before .before .before .before .before .before .before .before .before .before .before
+    .before .before .before in
     omega (arith, decimal-word (start .args .m) (start .fits .m .fits))
 
 put-byte-requires : tie.Need-put-byte-requires
 put-byte-requires c κs =
-    let start = c .before .before .before .before .before .before .before .before .before .before .before .before .before .before .before .before .before .before .before .before in
+    let start = c .before .before .before .before .before .before .before .before .before .before .before .before .before
+    .before .before .before .before .before .before .before in
     omega (arith, decimal-word (start .args .m) (start .fits .m .fits), decimal-word (start .args .n) (start .fits .n .fits))
 
 returns : tie.Need-returns
@@ -26,7 +28,8 @@ returns c =
     let four = c .before .before .before .before .before .before in
     let two = four .before .before .before .before .before .before .before .before in
     and-then (and-then (and-then (and-then (two .before .before .before .before .put-text .ensures) (two .put-decimal .ensures))
-    (four .before .before .before .before .put-text2 .ensures)) (four .put-decimal2 .ensures)) (c .before .before .put-byte .ensures)
+    (four .before .before .before .before .put-text2 .ensures)) (four .put-decimal2 .ensures))
+    (c .before .before .put-byte .ensures)
 
 pub put-two-spec : {M : Type 1} → statement M
 put-two-spec =

@@ -94,7 +94,8 @@ alternatives-gathered t c =
 -- the `|` that the turn stopped at, where the loop goes on
 alternatives-bar : (t : ℕ) (c : alternatives-lts.Else1 (alternatives-calls t)
     (alternatives-at t) alternatives.Post alternatives-Inv-loop alternatives-μ-loop)
-    → byteAt (c .before .before .before .before .before .before .before .before .before .before .before .before .before .before .before .args .s .now) (c .before .before .before .before .before .before .a .given .0 .0) ≡ bar
+    → byteAt (c .before .before .before .before .before .before .before .before .before .before .before .before .before
+    .before .before .args .s .now) (c .before .before .before .before .before .before .a .given .0 .0) ≡ bar
 alternatives-bar t c = sym (c .before .byte-at .ensures) ∙ c .if1 .left
 
 pub alternatives-loop-holds : (t : ℕ) → alternatives-lts.Need-loop-holds (alternatives-calls t)
@@ -161,8 +162,10 @@ pub alternatives-add-here : (t : ℕ) → alternatives-lts.Need-add-here (altern
 alternatives-add-here t c = omega (
   arith,
   at-bar
-      ((c .before .before .before .before .before .before .before .before .before .before .before .before .before .before .before) .args .s .now) ((c .before .before .before .before .before .before .a) .given .0 .0) (alternatives-bar t c),
-  (c .before .before .before .before .before .before .before .before .before .before .before .before .before .before .before) .good .0,
+      ((c .before .before .before .before .before .before .before .before .before .before .before .before .before .before
+      .before) .args .s .now) ((c .before .before .before .before .before .before .a) .given .0 .0) (alternatives-bar t c),
+  (c .before .before .before .before .before .before .before .before .before .before .before .before .before .before .before)
+      .good .0,
 )
 
 pub alternatives-loop-less : (t : ℕ) → alternatives-lts.Need-loop-less (alternatives-calls t)
@@ -172,18 +175,25 @@ alternatives-loop-less t c = omega (
   alternatives-stretch t
       (c .before .before .before .before .before .before) .on,
   at-bar
-      ((c .before .before .before .before .before .before .before .before .before .before .before .before .before .before .before) .args .s .now) ((c .before .before .before .before .before .before .a) .given .0 .0) (alternatives-bar t c),
+      ((c .before .before .before .before .before .before .before .before .before .before .before .before .before .before
+      .before) .args .s .now) ((c .before .before .before .before .before .before .a) .given .0 .0) (alternatives-bar t c),
 )
 
 pub alternatives-loop-again : (t : ℕ) → alternatives-lts.Need-loop-again (alternatives-calls t)
     (alternatives-at t) alternatives.Post alternatives-Inv-loop alternatives-μ-loop
 alternatives-loop-again t c =
-    let a = (c .before .before .before .before .before .before .before .before .before .before .before .before .before .before .before) .args in
+    let a = (c .before .before .before .before .before .before .before .before .before .before .before .before .before .before
+    .before) .args in
     let l = (c .before .before .before .before .before .before .before .before .before .before .before .before .loop) in
     let g = alternatives-got t (c .before .before .before .before .before .before) in
     let i = alternatives-stretch t (c .before .before .before .before .before .before) in
     let here = at-bar (a .s .now) ((c .before .before .before .before .before .before .a) .given .0 .0) (alternatives-bar t c) in
-    turn ((c .before .before .before .before .before .before .before .before .before .before .before .before .before .before .before) .pre .1 .0) (l .inv) ((c .before .before .before .before .before .before .a) .given .0 .0 + 1) ((c .before .before .before .before .before .before .a) .given .0 .1 .1 .0) (alternatives-gathered t (c .before .before .before)) ((c .before .before .before .before .before .before .before .before .before .before .sequence) .kept .1 .1 .1 .1 .0) (omega (arith, i .on)) (omega arith)
+    turn ((c .before .before .before .before .before .before .before .before .before .before .before .before .before .before
+    .before) .pre .1 .0) (l .inv) ((c .before .before .before .before .before .before .a) .given .0 .0 + 1)
+    ((c .before .before .before .before .before .before .a) .given .0 .1 .1 .0)
+    (alternatives-gathered t (c .before .before .before))
+    ((c .before .before .before .before .before .before .before .before .before .before .sequence) .kept .1 .1
+    .1 .1 .0) (omega (arith, i .on)) (omega arith)
     (i .kept .fewGroups) (omega (arith, i .few, l .inv .room))
     (λ n. alt-more (a .s .now) (sequenceAt (depthLimit - a .depth) (a .s .now)) (l .inv .items) (l .here) (l .seen) n
     (alternatives-bar t c) (g .read))
@@ -192,10 +202,14 @@ pub alternatives-joined-requires : (t : ℕ)
     → alternatives-lts.Need-joined-requires (alternatives-calls t)
     (alternatives-at t) alternatives.Post alternatives-Inv-loop alternatives-μ-loop
 alternatives-joined-requires t c κs =
-    let f = fine-here ((c .before .before .before .before .before .before .before .before .before .before .before .before .before .before .before .before) .pre .1 .0) ((c .before .before .before .before .before .before .before .before .before .before .before .before .before .loop) .inv) in
+    let f = fine-here ((c .before .before .before .before .before .before .before .before .before .before .before .before
+    .before .before .before .before) .pre .1 .0) ((c .before .before .before .before .before .before .before .before
+    .before .before .before .before .before .loop) .inv) in
     let i = alternatives-stretch t (c .before .before .before .before .before .before .before) in
     let m = alternatives-gathered t (c .before .before .before .before) in
-    closable ((c .before .before .before .before .before .before .before .before .before .before .before .before .before .before .before .before) .args .s .now) alternation (m .gathered) (f .short) (omega (arith, m .grown, i .few, i .kept .within, f .room))
+    closable ((c .before .before .before .before .before .before .before .before .before .before .before .before .before
+    .before .before .before) .args .s .now) alternation (m .gathered) (f .short)
+    (omega (arith, m .grown, i .few, i .kept .within, f .room))
     (omega (
       arith,
       f .words,
@@ -209,8 +223,10 @@ alternatives-same-length-2 t c = search needs
 pub alternatives-returns-2 : (t : ℕ) → alternatives-lts.Need-returns-2 (alternatives-calls t)
     (alternatives-at t) alternatives.Post alternatives-Inv-loop alternatives-μ-loop
 alternatives-returns-2 t c =
-    let a = (c .before .before .before .before .before .before .before .before .before .before .before .before .before .before .before .before .before .before .before) .args in
-    let l = (c .before .before .before .before .before .before .before .before .before .before .before .before .before .before .before .before .loop) in
+    let a = (c .before .before .before .before .before .before .before .before .before .before .before .before .before .before
+    .before .before .before .before .before) .args in
+    let l = (c .before .before .before .before .before .before .before .before .before .before .before .before .before .before
+    .before .before .loop) in
     joined-meets alternation
     ((c .before .before .before .before .before .before .before .before .before .before .a) .given .0 .0)
     ((c .before .before .before .before .before .before .before .before .before .before .a) .given .0 .1 .1 .0)

@@ -90,7 +90,8 @@ atom-fine t c =
 
 -- the alternatives that were read inside
 atom-got : (t : ℕ) (c : atom-lts.After-end (atom-calls t) (atom-at t) atom.Post) →
-    let a = c .before .before .before .before .before .before .before .before .before .before .before .before .before .before .args in
+    let a = c .before .before .before .before .before .before .before .before .before .before .before .before .before .before
+    .args in
     Got-part (alternativesAt (depthLimit - (a .depth + 1)) (a .s .now)
     (c .before .before .before .before .before .before .before .from .given .0 .0)
     (c .before .before .before .before .before .before .before .from .given .0 .1 .1 .0))
@@ -99,13 +100,15 @@ atom-got : (t : ℕ) (c : atom-lts.After-end (atom-calls t) (atom-at t) atom.Pos
 atom-got t c = met-part (c .before .before .before .before .alternatives .ensures) (c .end .given .1)
 
 atom-stretch : (t : ℕ) (c : atom-lts.After-end (atom-calls t) (atom-at t) atom.Post) →
-    let a = c .before .before .before .before .before .before .before .before .before .before .before .before .before .before .args in
+    let a = c .before .before .before .before .before .before .before .before .before .before .before .before .before .before
+    .args in
     Stretch (a .s .now) (depthLimit - (a .depth + 1))
     (c .before .before .before .before .before .before .before .from .given .0 .0)
     (c .before .before .before .before .before .before .before .from .given .0 .1 .1 .0) (atom-got t c .node)
     (c .end .given .0 .0) (c .end .given .0 .1 .1 .0)
 atom-stretch t c = alternatives-read (atom-fine t (c .before .before .before .before .before .before .before))
-    (depthLimit - (c .before .before .before .before .before .before .before .before .before .before .before .before .before .before .args .depth + 1)) (atom-got t c .read)
+    (depthLimit - (c .before .before .before .before .before .before .before .before .before .before .before .before .before
+    .before .args .depth + 1)) (atom-got t c .read)
 
 pub atom-byte-at-requires : (t : ℕ) → atom-lts.Need-byte-at-requires (atom-calls t) (atom-at t) atom.Post
 atom-byte-at-requires t c κs = search needs
@@ -157,8 +160,10 @@ atom-enum-known-end t c = search needs
 
 pub atom-closed-requires : (t : ℕ) → atom-lts.Need-closed-requires (atom-calls t) (atom-at t) atom.Post
 atom-closed-requires t c κs =
-    let a = (c .before .before .before .before .before .before .before .before .before .before .before .before .before .before .before .before) .args in
-    let f = (c .before .before .before .before .before .before .before .before .before .before .before .before .before .before .before .before) .pre .1 .0 in
+    let a = (c .before .before .before .before .before .before .before .before .before .before .before .before .before .before
+    .before .before) .args in
+    let f = (c .before .before .before .before .before .before .before .before .before .before .before .before .before .before
+    .before .before) .pre .1 .0 in
     let g = atom-got t (c .before .before) in
     let i = atom-stretch t (c .before .before) in
     let o = atom-inside t (c .before .before .before .before .before .before .before .before .before) in
@@ -186,7 +191,8 @@ atom-same-length-2 t c = search needs
 
 pub atom-returns-3 : (t : ℕ) → atom-lts.Need-returns-3 (atom-calls t) (atom-at t) atom.Post
 atom-returns-3 t c =
-    let a = (c .before .before .before .before .before .before .before .before .before .before .before .before .before .before .before) .args in
+    let a = (c .before .before .before .before .before .before .before .before .before .before .before .before .before .before
+    .before) .args in
     let e = met-no ((c .before .before .before .before .before .alternatives) .ensures) ((c .before .number2) .given .1) in
     meet-no (atom-inside t (c .before .before .before .before .before .before .before .before) .4
     ∙ ap (λ x. andThen x (λ r end g. closed (a .s .now)
@@ -198,12 +204,16 @@ atom-same-length-3 t c = search needs
 
 pub atom-returns-4 : (t : ℕ) → atom-lts.Need-returns-4 (atom-calls t) (atom-at t) atom.Post
 atom-returns-4 t c =
-    let a = (c .before .before .before .before .before .before .before .before .before .before .before .before .before .before .before .before .before .before .before) .args in
+    let a = (c .before .before .before .before .before .before .before .before .before .before .before .before .before .before
+    .before .before .before .before .before) .args in
     let g = atom-got t (c .before .before .before .before .before) in
     meet (closed (a .s .now)
-    (grouped ((c .before .before .before .before .before .before .before .before .before .before .before .before .from) .given .0 .1 .0) (g .node)) ((c .before .before .before .before .before .end) .given .0 .0) ((c .before .before .before .before .before .end) .given .0 .1 .1 .0))
+    (grouped ((c .before .before .before .before .before .before .before .before .before .before .before .before .from) .given
+    .0 .1 .0) (g .node)) ((c .before .before .before .before .before .end) .given .0 .0)
+    ((c .before .before .before .before .before .end) .given .0 .1 .1 .0))
     (atom-inside t (c .before .before .before .before .before .before .before .before .before .before .before .before) .4
     ∙ ap (λ x. andThen x (λ r end g. closed (a .s .now)
-    (grouped ((c .before .before .before .before .before .before .before .before .before .before .before .before .from) .given .0 .1 .0) r) end g)) (g .read))
+    (grouped ((c .before .before .before .before .before .before .before .before .before .before .before .before .from) .given
+    .0 .1 .0) r) end g)) (g .read))
     ((c .before .before .closed) .ensures .by (take (recordWords * a .top) (a .table .now)) (g .node)
     (kept-proper (atom-stretch t (c .before .before .before .before .before) .kept)) (g .stands))

@@ -79,10 +79,15 @@ sequence-item t c =
 -- the parts that were gathered, with its own
 sequence-gathered : (t : ℕ) (c : sequence-lts.After-splice (sequence-calls t)
     (sequence-at t) sequence.Post sequence-Inv-loop sequence-μ-loop)
-    → More (c .before .before .before .before .before .before .before .before .before .before .before .before .before .before .pre .1 .0) (c .before .before .before .before .before .before .before .before .before .before .before .loop .inv) (c .before .before .before .before .before .before .before .atom .last .1 .1 .1 .1 .0) (sequence-got t (c .before .before .before) .node) (c .splice .result)
+    → More (c .before .before .before .before .before .before .before .before .before .before .before .before .before .before
+    .pre .1 .0) (c .before .before .before .before .before .before .before .before .before .before .before .loop .inv)
+    (c .before .before .before .before .before .before .before .atom .last .1 .1 .1 .1 .0)
+    (sequence-got t (c .before .before .before) .node) (c .splice .result)
 sequence-gathered t c =
     let i = sequence-item t (c .before .before .before) in
-    more (c .before .before .before .before .before .before .before .before .before .before .before .before .before .before .pre .1 .0) (c .before .before .before .before .before .before .before .before .before .before .before .loop .inv) (kept-proper (i .kept)) (i .kept .flat)
+    more (c .before .before .before .before .before .before .before .before .before .before .before .before .before .before
+    .pre .1 .0) (c .before .before .before .before .before .before .before .before .before .before .before .loop .inv)
+    (kept-proper (i .kept)) (i .kept .flat)
     (omega (
       arith,
       i .few,
@@ -156,11 +161,16 @@ sequence-loop-less t c = omega (
 pub sequence-loop-again : (t : ℕ) → sequence-lts.Need-loop-again (sequence-calls t)
     (sequence-at t) sequence.Post sequence-Inv-loop sequence-μ-loop
 sequence-loop-again t c =
-    let a = (c .before .before .before .before .before .before .before .before .before .before .before .before .before .before .before) .args in
+    let a = (c .before .before .before .before .before .before .before .before .before .before .before .before .before .before
+    .before) .args in
     let l = (c .before .before .before .before .before .before .before .before .before .before .before .before .loop) in
     let g = sequence-got t (c .before .before .before .before) in
     let i = sequence-item t (c .before .before .before .before) in
-    turn ((c .before .before .before .before .before .before .before .before .before .before .before .before .before .before .before) .pre .1 .0) (l .inv) ((c .before .before .before .before .a) .given .0 .0) ((c .before .before .before .before .a) .given .0 .1 .1 .0) (sequence-gathered t (c .before)) ((c .before .before .before .before .before .before .before .before .atom) .kept .1 .1 .1 .1 .0) (i .on) (i .kept .within)
+    turn ((c .before .before .before .before .before .before .before .before .before .before .before .before .before .before
+    .before) .pre .1 .0) (l .inv) ((c .before .before .before .before .a) .given .0 .0)
+    ((c .before .before .before .before .a) .given .0 .1 .1 .0) (sequence-gathered t (c .before))
+    ((c .before .before .before .before .before .before .before .before .atom) .kept .1 .1 .1 .1 .0) (i .on)
+    (i .kept .within)
     (i .kept .fewGroups) (omega (arith, i .few, l .inv .room))
     (λ n. seq-more (a .s .now) (itemAt (depthLimit - a .depth) (a .s .now)) (l .inv .items) (l .here) (l .seen) n
     (sequence-on t (c .before .before .before .before .before .before .before .before .before .before)) (g .read))
