@@ -29,8 +29,7 @@ abbrev pub shownWord : ℕ → ℤ
 shownWord v = shown (regOf v)
 
 -- The answer to a call that begins at a row, what it leaves in the registers, and which words of the workspace stay: those
--- behind the
--- words that a run needs, and all of them if it was turned away. Nothing is promised of the words that a run needs
+-- behind the words that a run needs, and all of them if it was turned away. Nothing is promised of the words that a run needs
 -- (WORKSPACE.md).
 pub record Answered (code text : List ℕ) (start row : ℕ) (registers : List ℤ) (workspace : List ℕ) (r : Answer)
     (registers′ : List ℤ) (workspace′ : List ℕ) : Type 0 where

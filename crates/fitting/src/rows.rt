@@ -1,6 +1,5 @@
-// The laws for the items of a sequence and the alternatives of an alternation: T1 and T6 to T8. Each looks for a part
-// in a row, and
-// the parts of a row are passed from the last one back: its own record says where the one before it ends.
+// The laws for the items of a sequence and the alternatives of an alternation: T1 and T6 to T8. Each looks for a part in a
+// row, and the parts of a row are passed from the last one back: its own record says where the one before it ends.
 use super::Mark;
 use super::last_words;
 use super::own;

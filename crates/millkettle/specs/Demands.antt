@@ -1,121 +1,58 @@
--- Demands 1 and 2, over the promises of the public calls. That every call ends is the toolchain's part: a function that
--- may not end is
--- not proved.
-use mathlib.Core.Path.{_≡_, sym, ap, subst, _∙_}
-use mathlib.Core.Option.{Option, none, some}
-use mathlib.Core.List.{List, _++_}
+-- The three demands, over the promises of the public calls: `Compiles` of `compile`, `CompilesTidied` of `compile_tidied`, `Answered` of
+-- `match_at` and `search`. `Finds` of `find` is demand 2 in one definition. That every call ends, and touches only what was lent, is the
+-- toolchain's part: a function that may not end, or reaches further, is not proved.
+use mathlib.Core.Path.{_≡_, sym}
+use mathlib.Core.List.{List}
 use Prim.Native.Nat.{ℕ, suc, _+_, _*_, _-_, _≤_}
-use native.Mathlib.Omega.{arith}
 use lib.IntN.{ℤ}
-use lib.ListN.{length, drop}
-use Rattle.meaning.specs.Text.{Regs, registersOf}
+use lib.ListN.{length}
 use Rattle.meaning.specs.Bytes.{Bytes}
-use Rattle.meaning.specs.Node.{Node}
-use Rattle.machine.specs.Steps.{best, count}
-use Rattle.machine.specs.Words.{rowsSaid, groupsSaid}
-use Rattle.machine.specs.Replies.{Reply.refused, refusal, runOf, answerOf, replyTo, reply, spans, registersFrom, registersAfter}
-use Rattle.items.specs.Reading.{Reading.pattern, reading}
+use Rattle.machine.specs.Steps.{count}
+use Rattle.machine.specs.Words.{rowsSaid}
+use Rattle.machine.specs.Replies.{refusal, runOf}
 use Rattle.compiler.specs.Compiling.{Compiles}
+use Rattle.compiler.specs.declared.Compilation.{Compilation}
 use Rattle.compiler.specs.declared.Compilation.the-variants.{Rows}
+use Rattle.tidied.specs.Compiling.{CompilesTidied}
 use Rattle.engine.specs.Answers.{replyOf, executed, Answered}
 use Rattle.engine.specs.declared.Answer.{Answer}
-use Rattle.engine.specs.declared.Answer.the-variants.{Found, Missing, Refused}
-use Rattle.millkettle.specs.Finding.{Lent, lentBy, turnedAway}
-use Rattle.millkettle.specs.Laws.{Coded, Made, made, Way, rowOf, standardBy, finds, conditions, within}
+use Rattle.engine.specs.declared.Answer.the-variants.{Refused}
+use Rattle.millkettle.specs.Finding.{lentBy, turnedAway}
+use Rattle.millkettle.specs.Laws.{Way, rowOf}
+use Rattle.millkettle.specs.Runs.{bounded-rows, counted-rows, turned-rows, Compiled, compiled-standard}
+use Rattle.millkettle.specs.Tidied.{Neat, neat, outcome, same-answers}
 
--- Demand 1: for any code, text, start and buffers, at most two rows are executed for each row and position,
-module _ {code text : List ℕ} {start row : ℕ} {registers registers′ : List ℤ} {workspace workspace′ : List ℕ} {r : Answer}
-    (a : Answered code text start row registers workspace r registers′ workspace′) where
-  pub bounded-rows : executed r ≤ 2 * rowsSaid code * (length text - start + 1)
-  bounded-rows = a .bounded
+-- Demand 1, for any code, text, start, registers and workspace: at most two rows are executed for each row and position; the count is the
+-- steps'; and a refusal is the first in order whose condition holds, and changes nothing.
+pub demand-1 : {code text : List ℕ} {start row : ℕ} {registers registers′ : List ℤ} {workspace workspace′ : List ℕ} {r : Answer}
+    → Answered code text start row registers workspace r registers′ workspace′
+    → (executed r ≤ 2 * rowsSaid code * (length text - start + 1))
+    × (refusal code text start (length registers) (length workspace) ≡ 0 → executed r ≡ count (runOf code text start row))
+    × ((k : ℕ) → refusal code text start (length registers) (length workspace) ≡ suc k
+    → (r ≡ Refused (suc k)) × (registers′ ≡ registers) × (workspace′ ≡ workspace))
+demand-1 a = (bounded-rows a, counted-rows a, turned-rows a)
 
-  -- a run that is not turned away reports the steps' count,
-  pub counted-rows : refusal code text start (length registers) (length workspace) ≡ 0
-      → executed r ≡ count (runOf code text start row)
-  unfolding reply
-  counted-rows e =
-      let so : replyOf r ≡ replyTo 0 (runOf code text start row)
-      = a .replies ∙ ap (λ k. replyTo k (runOf code text start row)) e in
-      go r (best (runOf code text start row)) so
-    where
-      go : (r : Answer) (o : Option Regs) → replyOf r ≡ answerOf o (count (runOf code text start row))
-          → executed r ≡ count (runOf code text start row)
-      go (Found n) (some ρ) e = cc
-      go (Missing n) none e = cc
-      go (Found n) none e = absurd (let z : _≡_ {A = ℕ} 0 1 = cc in omega arith)
-      go (Missing n) (some ρ) e = absurd (let z : _≡_ {A = ℕ} 0 1 = cc in omega arith)
-      go (Refused n) none e = absurd (let z : _≡_ {A = ℕ} 0 1 = cc in omega arith)
-      go (Refused n) (some ρ) e = absurd (let z : _≡_ {A = ℕ} 0 1 = cc in omega arith)
-
-  -- and one that is turned away says the first number in order whose condition holds, and changes nothing.
-  pub turned-rows : (k : ℕ) → refusal code text start (length registers) (length workspace) ≡ suc k
-      → (r ≡ Refused (suc k)) × (registers′ ≡ registers) × (workspace′ ≡ workspace)
-  unfolding reply registersAfter
-  turned-rows k e =
-      let so : replyOf r ≡ refused (suc k) = a .replies ∙ ap (λ k. replyTo k (runOf code text start row)) e in
-      let is : r ≡ Refused (suc k) = go r so in (
-        is,
-        a .spans ∙ ap (λ k. registersFrom k (groupsSaid code) (runOf code text start row) registers) e,
-        a .untouched
-            (suc k) is,
-      )
-    where
-      go : (r : Answer) → replyOf r ≡ refused (suc k) → r ≡ Refused (suc k)
-      go (Found n) e = absurd (let z : _≡_ {A = ℕ} 0 1 = cc in omega arith)
-      go (Missing n) e = absurd (let z : _≡_ {A = ℕ} 0 1 = cc in omega arith)
-      go (Refused n) e = cc
-
--- Demand 2: code that says the program of a pattern, as `compile` leaves it, answers as the standard's algorithm does
--- on that pattern:
--- found with every group's span, or none exactly if that finds nothing; it is turned away only by 21 to 24.
-pub record Standard (way : Way) (r : Node) (n g : ℕ) (text : List ℕ) (start : ℕ) (registers registers′ : List ℤ)
-    (workspace : List ℕ)
-    (answer : Answer) : Type 0 where
-  pub answers : turnedAway n g (lentBy text start registers workspace) ≡ 0
-      → replyOf answer ≡ answerOf (standardBy way text g r start) (executed answer)
-  pub spans-are : turnedAway n g (lentBy text start registers workspace) ≡ 0
-      → registers′ ≡ spans g (standardBy way text g r start) ++ drop (registersOf g) registers
-  pub refuses : (k : ℕ) → turnedAway n g (lentBy text start registers workspace) ≡ suc k → answer ≡ Refused (suc k)
-
-pub answers-standard : (way : Way) {code text : List ℕ} {start : ℕ} {registers registers′ : List ℤ}
-    {workspace workspace′ : List ℕ}
-    {n g : ℕ} {r : Node} {answer : Answer} → Bytes text → Coded code n g r
-    → Answered code text start (rowOf way) registers workspace answer registers′ workspace′
-    → Standard way r n g text start registers registers′ workspace answer
-unfolding reply registersAfter
-answers-standard way {code} {text} {start} {registers} {workspace = workspace} {n = n} {g = g} {r = r} bytes m a =
-    let lent : Lent = lentBy text start registers workspace in
-    let same : refusal code text start (length registers) (length workspace) ≡ turnedAway n g lent
-    = conditions m text bytes start (length registers) (length workspace) in
-    let found : turnedAway n g lent ≡ 0 → best (runOf code text start (rowOf way)) ≡ standardBy way text g r start
-    = λ e. finds m text bytes start way (within n g lent e) in
-    record {
-      answers = λ e. a .replies ∙ ap (λ k. replyTo k (runOf code text start (rowOf way))) (same ∙ e)
-          ∙ rw (found e, ← counted-rows a (same ∙ e));
-      spans-are = λ e. a .spans ∙ ap (λ k. registersFrom k (groupsSaid code) (runOf code text start (rowOf way)) registers)
-          (same ∙ e)
-          ∙ ap (λ k. registersFrom 0 k (runOf code text start (rowOf way)) registers) (m .groups-said)
-          ∙ ap (λ o. spans g o ++ drop (registersOf g) registers) (found e);
-      refuses = λ k e. turned-rows a k (same ∙ e) .0;
-    }
-
--- So do the calls on what `compile` was given and left.
-pub record Compiled (way : Way) (s table text : List ℕ) (start n g : ℕ) (registers registers′ : List ℤ) (workspace : List ℕ)
-    (answer : Answer) : Type 0 where
-  pub node : Node
-  pub is-read : reading s (length table) ≡ pattern node g
-  pub standard : Standard way node n g text start registers registers′ workspace answer
-
-pub compiled-standard : (way : Way) {s text : List ℕ} {start : ℕ} {table table′ code code′ : List ℕ}
-    {registers registers′ : List ℤ}
-    {workspace workspace′ : List ℕ} {n g : ℕ} {answer : Answer} → Bytes s → Bytes text → Compiles s table table′ code code′
-    (Rows n g)
+-- Demand 2, for any pattern that `compile` answers with rows: matched at a start, or searched from it on, its code answers what the
+-- standard's algorithm finds for the pattern that was read, with every group's span, and none exactly if that finds nothing. It is
+-- turned away only by 21 to 24.
+pub demand-2 : (way : Way) {s text : List ℕ} {start : ℕ} {table table′ code code′ : List ℕ} {registers registers′ : List ℤ}
+    {workspace workspace′ : List ℕ} {n g : ℕ} {answer : Answer} → Bytes s → Bytes text → Compiles s table table′ code code′ (Rows n g)
     → Answered code′ text start (rowOf way) registers workspace answer registers′ workspace′
     → Compiled way s table text start n g registers registers′ workspace answer
-compiled-standard way {s} {table = table} {code = code} {n = n} {g = g} bs bt h a =
-    let m : Made s table code n g = made s table code n g bs (sym (h .answers)) in
-    record {
-      node = m .node;
-      is-read = m .is-read;
-      standard = answers-standard way bt (subst (λ (c : List ℕ). Coded c n g (m .node)) (sym (h .code-is)) (m .is-coded)) a;
-    }
+demand-2 = compiled-standard
+
+-- Demand 3, for any pattern that `compile_tidied` answers with rows: its table holds the tidied pattern, which is alike, takes no more
+-- rows, and to which no law still applies;
+pub demand-3 : {s table table′ code code′ : List ℕ} {n g : ℕ} → Bytes s → CompilesTidied s table table′ code code′ (Rows n g)
+    → Neat s table code n g
+demand-3 {s} {table} {code = code} {n = n} {g = g} bytes h = neat s table code n g bytes (sym (h .answers))
+
+-- and wherever the plain pattern has room to run, the tidied one answers the same, with every group the same.
+pub demand-3-answers : (way : Way) {s text : List ℕ} {start : ℕ} {table table′ table″ code code′ code″ : List ℕ}
+    {registers registers′ registers″ : List ℤ} {workspace workspace′ workspace″ : List ℕ} {n g : ℕ} {compiled : Compilation} {r q : Answer}
+    → Bytes s → Bytes text → Compiles s table table′ code code′ (Rows n g) → CompilesTidied s table table″ code code″ compiled
+    → turnedAway n g (lentBy text start registers workspace) ≡ 0
+    → Answered code′ text start (rowOf way) registers workspace r registers′ workspace′
+    → Answered code″ text start (rowOf way) registers workspace q registers″ workspace″
+    → ((m : ℕ) × (compiled ≡ Rows m g) × (m ≤ n)) × (outcome (replyOf r) ≡ outcome (replyOf q)) × (registers′ ≡ registers″)
+demand-3-answers = same-answers

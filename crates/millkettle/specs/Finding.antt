@@ -1,6 +1,5 @@
--- What `find` answers and leaves behind: demand 2 in one definition, by the reading, the number of rows, the exact
--- conditions of a run
--- and the standard's search. Definitions only.
+-- What `find` answers and leaves behind: demand 2 in one definition, by the reading, the number of rows, the exact conditions
+-- of a run and the standard's search. Definitions only.
 use mathlib.Core.Path.{_≡_}
 use mathlib.Core.Bool.{cond}
 use mathlib.Core.Option.{Option, none, some}
@@ -43,9 +42,8 @@ pub record Lent : Type 0 where
   pub registers : ℕ
   pub workspace : ℕ
 
--- The number by which a run of n rows and g groups is turned away, the first in order that holds, 0 if it is not: 21
--- text over the
--- limit; 22 start beyond the text's length; 23 fewer registers, and 24 fewer workspace words, than it needs.
+-- The number by which a run of n rows and g groups is turned away, the first in order that holds, 0 if it is not: 21 text over
+-- the limit; 22 start beyond the text's length; 23 fewer registers, and 24 fewer workspace words, than it needs.
 abbrev pub turnedAway : ℕ → ℕ → Lent → ℕ
 turnedAway n g lent =
     cond (leb (length (lent .text)) textLimit)
@@ -120,9 +118,8 @@ abbrev pub lentBy : List ℕ → ℕ → List ℤ → List ℕ → Lent
 lentBy text start registers workspace =
     record { text = text; start = start; registers = length registers; workspace = length workspace }
 
--- The promise of `find`. Table and code are what `compile` leaves; workspace words behind those that a run needs stay,
--- all of them on
--- a refusal.
+-- The promise of `find`. Table and code are what `compile` leaves; workspace words behind those that a run needs stay, all of
+-- them on a refusal.
 pub record Finds (s text : List ℕ) (start : ℕ) (table table′ code code′ : List ℕ) (registers registers′ : List ℤ)
     (workspace workspace′ : List ℕ) (answer : Finding) : Type 0 where
   pub answers : answer ≡ finding s (length table) (length code) (lentBy text start registers workspace)

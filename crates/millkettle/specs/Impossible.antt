@@ -1,6 +1,5 @@
 -- Replies that the promises rule out: refusing everything, always answering none, a fixed span, a made-up count, and a
--- compiler that
--- writes nothing. Each is refuted by lines whose answers the outline says.
+-- compiler that writes nothing. Each is refuted by lines whose answers the outline says.
 use mathlib.Core.Path.{_≡_, refl, sym, ap, _∙_}
 use mathlib.Core.List.{List, [], _∷_}
 use Prim.Native.Nat.{ℕ}

@@ -1,6 +1,5 @@
--- Demand 3, over the promises of the public calls: the tidied pattern answers as the plain one, has no more rows, and
--- no law still
--- applies to it.
+-- Demand 3, over the promises of the public calls: the tidied pattern answers as the plain one, has no more rows, and no law
+-- still applies to it.
 use mathlib.Core.Path.{_≡_, refl, sym, ap, subst, _∙_}
 use mathlib.Core.Bool.{Bool, true, false, cond}
 use mathlib.Core.Option.{Option, none, some}
@@ -45,7 +44,7 @@ use Rattle.tidier.specs.Held.{tableOf}
 use Rattle.millkettle.specs.Finding.{Lent, lentBy, turnedAway}
 use Rattle.millkettle.specs.Laws.{only-emitted, Coded, coded, Made, made}
 use Rattle.millkettle.specs.Laws.{Way, Way.matching, Way.searching, rowOf, standardBy, within}
-use Rattle.millkettle.specs.Demands.{answers-standard}
+use Rattle.millkettle.specs.Runs.{answers-standard}
 
 -- A pattern that was compiled tidied: what it was read as, its code, and what the table holds.
 pub record Neat (s table code : List ℕ) (n g : ℕ) : Type 1 where
@@ -146,9 +145,8 @@ outcome-of : (o : Option Regs) (n m : ℕ) → outcome (answerOf o n) ≡ outcom
 outcome-of none n m = refl
 outcome-of (some ρ) n m = refl
 
--- Demand 3 of `compile`, `compile_tidied`, `match_at` and `search` together: where the plain pattern has room to run,
--- the tidied one has
--- a program of no more rows, which finds the same, with every group the same, or nothing as well.
+-- Demand 3 of `compile`, `compile_tidied`, `match_at` and `search` together: where the plain pattern has room to run, the
+-- tidied one has a program of no more rows, which finds the same, with every group the same, or nothing as well.
 pub same-answers : (way : Way) {s text : List ℕ} {start : ℕ} {table table′ table″ code code′ code″ : List ℕ}
     {registers registers′ registers″ : List ℤ} {workspace workspace′ workspace″ : List ℕ} {n g : ℕ} {compiled : Compilation}
     {r q : Answer}

@@ -1,6 +1,5 @@
-// The calls that users link: patterns are compiled, code is matched and searched, and `find` does both. None asks
-// anything of its
-// arguments: what it cannot do it refuses by the outline's number, and a refusal leaves behind what the outline says.
+// The calls that users link: patterns are compiled, code is matched and searched, and `find` does both. None asks anything of
+// its arguments: what it cannot do it refuses by the outline's number, and a refusal leaves behind what the outline says.
 ghost use mathlib.Core.Path.{_≡_};
 ghost use Rattle.machine.specs.Steps.{searchRow, matchRow};
 ghost use Rattle.compiler.specs.Compiling.{Compiles};
@@ -24,9 +23,8 @@ pub enum Finding {
     Refused { number: u32, place: usize },
 }
 
-// A pattern's bytes as code. Answers how many rows and groups it has, or refuses it by the outline's number at a place:
-// 1 to 3 change
-// nothing, 4 to 16 make the whole table zero, and all leave the code alone. Words of the code behind its rows stay.
+// A pattern's bytes as code. Answers how many rows and groups it has, or refuses it by the outline's number at a place: 1 to 3
+// change nothing, 4 to 16 make the whole table zero, and all leave the code alone. Words of the code behind its rows stay.
 pub fn compile(pattern: &[u8], table: &mut [u32], code: &mut [u32]) -> Compilation
     ensures { λ r. ⌜ Compiles (now (pattern .entry)) (now (table .entry)) (now (table .exit)) (now (code .entry))
         (now (code .exit)) r ⌝ }
@@ -34,9 +32,8 @@ pub fn compile(pattern: &[u8], table: &mut [u32], code: &mut [u32]) -> Compilati
     compiler::compile(pattern, table, code)
 }
 
-// As `compile`, for the tidied pattern: refusals are those of the plain one, but 16 is by the tidied one's rows. The
-// table then holds the
-// tidied pattern.
+// As `compile`, for the tidied pattern: refusals are those of the plain one, but 16 is by the tidied one's rows. The table
+// then holds the tidied pattern.
 pub fn compile_tidied(pattern: &[u8], table: &mut [u32], code: &mut [u32]) -> Compilation
     ensures { λ r. ⌜ CompilesTidied (now (pattern .entry)) (now (table .entry)) (now (table .exit)) (now (code .entry))
         (now (code .exit)) r ⌝ }
@@ -44,10 +41,9 @@ pub fn compile_tidied(pattern: &[u8], table: &mut [u32], code: &mut [u32]) -> Co
     tidied::compile_tidied(pattern, table, code)
 }
 
-// Whether code matches at the start. Answers found or none with the count of rows executed, or refuses by 20 to 24 and
-// changes nothing.
-// The first registers hold starts and ends, -1 and -1 for a group that took no part and for all of them on none; later
-// ones stay.
+// Whether code matches at the start. Answers found or none with the count of rows executed, or refuses by 20 to 24 and changes
+// nothing. The first registers hold starts and ends, -1 and -1 for a group that took no part and for all of them on none;
+// later ones stay.
 pub fn match_at(
     code: &[u32],
     text: &[u8],
@@ -86,9 +82,9 @@ fn as_finding(answer: Answer) -> Finding
     }
 }
 
-// A pattern searched in a text from a start, in one call. Answers the refusal of the pattern or of the run, or found
-// with the spans that
-// the standard's search reaches first, or none exactly if that finds nothing. Table and code hold what `compile` writes.
+// A pattern searched in a text from a start, in one call. Answers the refusal of the pattern or of the run, or found with the
+// spans that the standard's search reaches first, or none exactly if that finds nothing. Table and code hold what `compile`
+// writes.
 pub fn find(
     pattern: &[u8],
     text: &[u8],

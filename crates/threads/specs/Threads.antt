@@ -35,8 +35,7 @@ pick true a b = a
 pick false a b = b
 
 -- The threads on a stack of d frames, the top first, where the registers are rs: a tag below `keys` is a thread with the
--- registers as they
--- are then; any other is `keys` and a register that gets its old value back.
+-- registers as they are then; any other is `keys` and a register that gets its old value back.
 unfoldable pub undo : List ℕ → ℕ → ℕ → ℕ → ℕ → List ℕ → List Thread
 undo s keys tags olds zero rs = []
 undo s keys tags olds (suc d) rs =
