@@ -3,10 +3,10 @@ use mathlib.Core.Path.{_≡_}
 use mathlib.Core.List.{List}
 use Prim.Native.Nat.{ℕ}
 use lib.ListN.{length, replicate}
-use Rattle.items.specs.Reading.{Reading, Reading.pattern, Reading.refused, reading, tableBy}
-use Rattle.rows.specs.Emission.{emission, codeEmitted}
-use Rattle.rows.specs.declared.Emission.{Emission}
-use Rattle.rows.specs.declared.Emission.the-variants.{Rows as Emitted, TooMany, TooShort}
+use Rattle.reading_items.specs.Reading.{Reading, Reading.pattern, Reading.refused, reading, tableBy}
+use Rattle.code_rows.specs.Emission.{emission, codeEmitted}
+use Rattle.code_rows.specs.declared.Emission.{Emission}
+use Rattle.code_rows.specs.declared.Emission.the-variants.{Rows as Emitted, TooMany, TooShort}
 use Rattle.compiler.specs.declared.Compilation.{Compilation}
 use Rattle.compiler.specs.declared.Compilation.the-variants.{Rows, Refused}
 

@@ -11,8 +11,8 @@ use Rattle.meaning.specs.Limits.{tableWords}
 use Rattle.meaning.specs.Node.{lo, hi}
 use Rattle.machine.specs.Layout.{sizeOf, rowsOf, past, anyByte}
 use Rattle.machine.specs.Words.{codeOf}
-use Rattle.atoms.specs.Braces.{numberGo, numberAt, bracesAt, quantifierAt}
-use Rattle.items.specs.Reading.{Reading, openingAt, itemBy, itemAt, sequenceGo, alternativesGo, reading}
+use Rattle.reading_atoms.specs.Braces.{numberGo, numberAt, bracesAt, quantifierAt}
+use Rattle.reading_items.specs.Reading.{Reading, openingAt, itemBy, itemAt, sequenceGo, alternativesGo, reading}
 use Rattle.compiler.specs.Compiling.{answerBy, codeLeft}
 use Rattle.compiler.specs.declared.Compilation.{Compilation}
 use Rattle.compiler.specs.declared.Compilation.the-variants.{Rows, Refused}

@@ -11,20 +11,20 @@ use Rattle.meaning.specs.Bytes.{Bytes}
 use Rattle.meaning.specs.Limits.{depthLimit}
 use Rattle.meaning.specs.Node.{Node, Node.empty, Node.bset, Node.assert, Node.group, Node.seq, Node.alt, Node.many, Proper}
 use Rattle.machine.specs.Words.{codePasses}
-use Rattle.items.specs.Facts.{Fair, fair-proper}
-use Rattle.items.specs.Kept.{Read}
-use Rattle.items.specs.Read.{atom-laws, what-is-read}
-use Rattle.items.specs.Reading.{Reading, Reading.pattern, Reading.refused, reading, tableBy, tableAfter}
+use Rattle.reading_items.specs.Facts.{Fair, fair-proper}
+use Rattle.reading_items.specs.Kept.{Read}
+use Rattle.reading_items.specs.Read.{atom-laws, what-is-read}
+use Rattle.reading_items.specs.Reading.{Reading, Reading.pattern, Reading.refused, reading, tableBy, tableAfter}
 use Rattle.table.specs.Table.{recordWords, recordCount, records}
 use Rattle.table.specs.Laws.{long}
-use Rattle.pattern.specs.Answers.{Reads, answerOf}
-use Rattle.pattern.specs.declared.Reading.{Reading as Answer}
-use Rattle.pattern.specs.declared.Reading.the-variants.{Pattern, Refused as Turned}
-use Rattle.rows.specs.Emits.{Counted, Stands}
-use Rattle.rows.specs.Program.{Tabled}
-use Rattle.rows.specs.Emission.{emission, SomeTabled, Emits, rowsNeeded, emitted-passes}
-use Rattle.rows.specs.declared.Emission.{Emission}
-use Rattle.rows.specs.declared.Emission.the-variants.{Rows as Emitted, TooMany, TooShort}
+use Rattle.reading.specs.Answers.{Reads, answerOf}
+use Rattle.reading.specs.declared.Reading.{Reading as Answer}
+use Rattle.reading.specs.declared.Reading.the-variants.{Pattern, Refused as Turned}
+use Rattle.code_rows.specs.Emits.{Counted, Stands}
+use Rattle.code_rows.specs.Program.{Tabled}
+use Rattle.code_rows.specs.Emission.{emission, SomeTabled, Emits, rowsNeeded, emitted-passes}
+use Rattle.code_rows.specs.declared.Emission.{Emission}
+use Rattle.code_rows.specs.declared.Emission.the-variants.{Rows as Emitted, TooMany, TooShort}
 use Rattle.compiler.specs.Compiling.{answerFor, tableFor, answerBy, tableLeft}
 use Rattle.compiler.specs.Compiling.{codeLeft, compilation, codeAt, Compiles, Cleared}
 use Rattle.compiler.specs.declared.Compilation.{Compilation}

@@ -15,11 +15,11 @@ use Rattle.meaning.specs.Node.{lo, hi}
 use Rattle.meaning.specs.Flat.{parts}
 use Rattle.meaning.specs.Standard.{repeatMatcher, matcher, matchAt, searchFrom}
 use Rattle.machine.specs.Replies.{spans}
-use Rattle.atoms.specs.Escapes.{escapeAt}
-use Rattle.atoms.specs.Classes.{classAtom, classGo, classAt}
-use Rattle.atoms.specs.Braces.{numberGo, numberAt, bracesAt, quantifierAt}
-use Rattle.items.specs.Reading.{Reading, Reading.pattern, Reading.refused, openingAt, itemBy, itemAt}
-use Rattle.items.specs.Reading.{sequenceGo, alternativesGo, reading}
+use Rattle.reading_atoms.specs.Escapes.{escapeAt}
+use Rattle.reading_atoms.specs.Classes.{classAtom, classGo, classAt}
+use Rattle.reading_atoms.specs.Braces.{numberGo, numberAt, bracesAt, quantifierAt}
+use Rattle.reading_items.specs.Reading.{Reading, Reading.pattern, Reading.refused, openingAt, itemBy, itemAt}
+use Rattle.reading_items.specs.Reading.{sequenceGo, alternativesGo, reading}
 
 -- A line: a pattern matched at the start of a text, or searched in it from 0, and the numbers that come out, group by group.
 pub data Line : Type 0 where

@@ -1,8 +1,8 @@
 // From a pattern's bytes to the code of its program, or to the outline's refusal.
 ghost use Rattle.compiler.specs.Compiling.{Compiles, Cleared};
-use items::clear;
-use pattern::Reading;
-use rows::Emission;
+use reading_items::clear;
+use reading::Reading;
+use code_rows::Emission;
 
 // The outline's numbers for what has no program: too many rows, and code too short for them.
 pub const MANY_ROWS: u32 = 15;
@@ -28,9 +28,9 @@ pub fn compile(pattern: &[u8], table: &mut [u32], code: &mut [u32]) -> Compilati
     ensures { λ r. ⌜ Compiles (now (pattern .entry)) (now (table .entry)) (now (table .exit)) (now (code .entry))
         (now (code .exit)) r ⌝ }
 {
-    match pattern::read(pattern, table) {
+    match reading::read(pattern, table) {
         Reading::Refused { number, place } => Compilation::Refused { number, place },
-        Reading::Pattern { records, groups } => match rows::emit(table, records, groups, code) {
+        Reading::Pattern { records, groups } => match code_rows::emit(table, records, groups, code) {
             Emission::Rows(rows) => Compilation::Rows { rows, groups },
             Emission::TooMany => without_program(table, MANY_ROWS),
             Emission::TooShort => without_program(table, SHORT_CODE),

@@ -7,7 +7,7 @@ use lib.ListN.{length, getD}
 use Rattle.meaning.specs.Limits.{workspaceWords}
 use Rattle.machine.specs.Words.{rowsSaid, groupsSaid}
 use Rattle.machine.specs.Replies.{Reply, Reply.found, Reply.missing, Reply.refused, reply, registersAfter, shown}
-use Rattle.threads.specs.Threads.{regOf}
+use Rattle.running_threads.specs.Threads.{regOf}
 use Rattle.engine.specs.declared.Answer.{Answer}
 use Rattle.engine.specs.declared.Answer.the-variants.{Found, Missing, Refused}
 

@@ -25,11 +25,11 @@ use Rattle.machine.specs.Coded.{rowsIn-length}
 use Rattle.machine.specs.Passed.{run-frugal}
 use Rattle.machine.specs.Replies.{Reply, Reply.found, Reply.missing, Reply.refused, refusal, runOf, answerOf, replyTo}
 use Rattle.machine.specs.Replies.{reply, shown, spans, registersFrom, registersAfter}
-use Rattle.moves.specs.Ready.{Ready, ready}
-use Rattle.threads.specs.Words.{wordsAt}
-use Rattle.threads.specs.Threads.{nowhere, regOf}
-use Rattle.threads.specs.Laws.{words-at, words-length}
-use Rattle.settle.specs.Moved.{bestOf}
+use Rattle.running_moves.specs.Ready.{Ready, ready}
+use Rattle.running_threads.specs.Words.{wordsAt}
+use Rattle.running_threads.specs.Threads.{nowhere, regOf}
+use Rattle.running_threads.specs.Laws.{words-at, words-length}
+use Rattle.running_settle.specs.Moved.{bestOf}
 use Rattle.running.specs.Ran.{RanAs}
 use Rattle.running.specs.declared.Ran.{Ran}
 use Rattle.engine.specs.Answers.{replyOf, executed, shownWord, Answered}

@@ -6,8 +6,8 @@ ghost use lib.ListN.{length, drop};
 ghost use Rattle.meaning.specs.Limits.{leastRows};
 ghost use Rattle.machine.specs.Steps.{searchRow, matchRow};
 ghost use Rattle.machine.specs.Replies.{refusal, shown};
-ghost use Rattle.threads.specs.Words.{wordsAt};
-ghost use Rattle.threads.specs.Threads.{regOf};
+ghost use Rattle.running_threads.specs.Words.{wordsAt};
+ghost use Rattle.running_threads.specs.Threads.{regOf};
 ghost use Rattle.engine.specs.Answers.{shownWord, Answered};
 
 // The longest text, in bytes.
@@ -40,7 +40,7 @@ pub enum Answer {
 fn turned_away(code: &[u32], text: &[u8], start: usize, registers: usize, workspace: usize) -> u32
     ensures { λ r. ⌜ r ≡ refusal (now (code .entry)) (now (text .entry)) start registers workspace ⌝ }
 {
-    if !passing::check(code) {
+    if !code_check::check(code) {
         return CODE_FAILS;
     }
     if text.len() > TEXT_LIMIT {
@@ -49,8 +49,8 @@ fn turned_away(code: &[u32], text: &[u8], start: usize, registers: usize, worksp
     if start > text.len() {
         return START_BEYOND;
     }
-    let n = threads::wide(code[0]);
-    let g = threads::wide(code[1]);
+    let n = running_threads::wide(code[0]);
+    let g = running_threads::wide(code[1]);
     if registers < 2 * (g + 1) {
         return FEW_REGISTERS;
     }

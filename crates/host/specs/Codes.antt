@@ -14,9 +14,9 @@ use Rattle.machine.specs.Layout.{programOf}
 use Rattle.machine.specs.Laid.{program-stands}
 use Rattle.machine.specs.Words.{codeOf}
 use Rattle.machine.specs.Coded.{code-length, compiled-whole}
-use Rattle.items.specs.Reading.{Reading, Reading.pattern, Reading.refused, reading}
-use Rattle.rows.specs.Emission.{rowsNeeded}
-use Rattle.rows.specs.declared.Emission.the-variants.{Rows as Emitted, TooMany, TooShort}
+use Rattle.reading_items.specs.Reading.{Reading, Reading.pattern, Reading.refused, reading}
+use Rattle.code_rows.specs.Emission.{rowsNeeded}
+use Rattle.code_rows.specs.declared.Emission.the-variants.{Rows as Emitted, TooMany, TooShort}
 use Rattle.compiler.specs.Compiling.{answerFor}
 use Rattle.wire.specs.Wire.{wordsOf, bytesOfWords, written}
 use Rattle.wire.specs.Words.{words-length}

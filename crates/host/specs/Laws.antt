@@ -16,8 +16,8 @@ use Rattle.meaning.specs.Limits.{textLimit, workspaceWords}
 use Rattle.machine.specs.Words.{rowsSaid, groupsSaid, decode, codePasses}
 use Rattle.machine.specs.Steps.{Machine, best}
 use Rattle.machine.specs.Replies.{Reply.refused, refusal, replyTo, runOf, reply, spans, registersFrom, registersAfter}
-use Rattle.moves.specs.Ready.{ready}
-use Rattle.items.specs.Reading.{reading}
+use Rattle.running_moves.specs.Ready.{ready}
+use Rattle.reading_items.specs.Reading.{reading}
 use Rattle.compiler.specs.declared.Compilation.{Compilation}
 use Rattle.engine.specs.Answers.{replyOf, Answered}
 use Rattle.engine.specs.Laws.{allowed}

@@ -13,19 +13,19 @@ use Rattle.meaning.specs.Limits.{patternLimit, depthLimit, tableWords, rowLimit
 use Rattle.meaning.specs.Bytes.{Bytes}
 use Rattle.meaning.specs.Node.{Node, Proper}
 use Rattle.meaning.specs.Numbering.{Numbers}
-use Rattle.items.specs.Reading.{Reading, Reading.pattern, Reading.refused, reading}
-use Rattle.grammar.specs.Refusals.{WrongEscape, WrongEscape.unknown, WrongEscape.leftOut, Refuses, TurnedAway}
-use Rattle.grammar.specs.Refusals.{Checks, Checks.long, Checks.small, Checks.high}
-use Rattle.grammar.specs.First.{refused-first}
-use Rattle.items.specs.Facts.{fair-proper}
-use Rattle.items.specs.Read.{what-is-read}
-use Rattle.laws.specs.Tidier.{tidy}
-use Rattle.laws.specs.Tidy.{tidy-rows, tidy-numbers, tidy-proper}
-use Rattle.rows.specs.Emission.{emission, codeEmitted, rowsNeeded}
+use Rattle.reading_items.specs.Reading.{Reading, Reading.pattern, Reading.refused, reading}
+use Rattle.reading_grammar.specs.Refusals.{WrongEscape, WrongEscape.unknown, WrongEscape.leftOut, Refuses, TurnedAway}
+use Rattle.reading_grammar.specs.Refusals.{Checks, Checks.long, Checks.small, Checks.high}
+use Rattle.reading_grammar.specs.First.{refused-first}
+use Rattle.reading_items.specs.Facts.{fair-proper}
+use Rattle.reading_items.specs.Read.{what-is-read}
+use Rattle.tidying_laws.specs.Tidier.{tidy}
+use Rattle.tidying_laws.specs.Tidy.{tidy-rows, tidy-numbers, tidy-proper}
+use Rattle.code_rows.specs.Emission.{emission, codeEmitted, rowsNeeded}
 use Rattle.compiler.specs.declared.Compilation.{Compilation}
 use Rattle.compiler.specs.declared.Compilation.the-variants.{Refused}
-use Rattle.rows.specs.declared.Emission.{Emission}
-use Rattle.rows.specs.declared.Emission.the-variants.{Rows as Emitted, TooMany, TooShort}
+use Rattle.code_rows.specs.declared.Emission.{Emission}
+use Rattle.code_rows.specs.declared.Emission.the-variants.{Rows as Emitted, TooMany, TooShort}
 use Rattle.compiler.specs.Compiling.{answerFor}
 use Rattle.meaning.specs.Limits.{tableSize}
 use Rattle.host.specs.Surface.{compiledNumbers, codeLent, answerAt, codeAfter, CompilesBytes}

@@ -7,9 +7,9 @@ use lib.Dec.{ltb}
 use lib.IntN.{ℤ}
 use lib.ListN.{length}
 use Rattle.machine.specs.Replies.{Reply, Reply.found, Reply.missing, Reply.refused, reply, registersAfter}
-use Rattle.items.specs.Reading.{Reading, reading}
+use Rattle.reading_items.specs.Reading.{Reading, reading}
 use Rattle.compiler.specs.Compiling.{answerBy, codeLeft}
-use Rattle.tidied.specs.Compiling.{answerBy as tidiedAnswerBy, codeLeft as tidiedCodeLeft}
+use Rattle.compiler_tidied.specs.Compiling.{answerBy as tidiedAnswerBy, codeLeft as tidiedCodeLeft}
 use Rattle.compiler.specs.declared.Compilation.{Compilation}
 use Rattle.compiler.specs.declared.Compilation.the-variants.{Rows, Refused}
 use Rattle.wire.specs.Wire.{wordsOf, intsOf, bytesOfWords, bytesOfInts, written}

@@ -18,7 +18,7 @@ use wire::store_ints;
 use wire::store_words;
 
 // The most registers that a run writes: two for each group and for the whole match.
-const REGISTERS: usize = 2 * (passing::GROUP_LIMIT as usize + 1);
+const REGISTERS: usize = 2 * (code_check::GROUP_LIMIT as usize + 1);
 
 // What compiling answers: 0, the rows and the groups; or the number of a refusal and its place.
 #[repr(C)]

@@ -5,15 +5,15 @@ use Prim.Native.Nat.{ℕ, _+_, _-_, _≤_, _<_}
 use native.Mathlib.Omega.{arith}
 use lib.ListN.{length, take, drop, replicate, length-drop}
 use lib.Seq.{take-all, take-add}
-use Rattle.report.specs.Wrote.{wrote-length}
+use Rattle.intake_report.specs.Wrote.{wrote-length}
 use Rattle.meaning.specs.Limits.{codeSize}
 use Rattle.intake_lines.specs.Ended.{lineRoom}
 use Rattle.intake_lines.specs.declared.Phase.the-variants.{Pattern, Over}
-use Rattle.feeding.specs.Work.{Work, atFirst, keptLimit, workBehind}
-use Rattle.feeding.specs.Fed.{workOf, Feeds}
-use Rattle.feeding.specs.Pieces.{behind-append, behind-none}
-use Rattle.feeding.specs.Laws.{feeds-some}
-use Rattle.feeding.specs.declared.Fed.{Fed}
+use Rattle.intake_feeding.specs.Work.{Work, atFirst, keptLimit, workBehind}
+use Rattle.intake_feeding.specs.Fed.{workOf, Feeds}
+use Rattle.intake_feeding.specs.Pieces.{behind-append, behind-none}
+use Rattle.intake_feeding.specs.Laws.{feeds-some}
+use Rattle.intake_feeding.specs.declared.Fed.{Fed}
 use Rattle.intake.specs.declared.Standing.{Standing}
 
 -- The work that a standing and the buffers stand for.

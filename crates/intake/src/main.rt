@@ -4,9 +4,9 @@ ghost use Prim.Native.Nat.{_≤_};
 ghost use lib.ListN.{length};
 ghost use Rattle.intake_lines.specs.Ended.{lineRoom};
 ghost use Rattle.intake_lines.specs.declared.Phase.the-variants.{Over};
-ghost use Rattle.feeding.specs.Work.{keptLimit};
+ghost use Rattle.intake_feeding.specs.Work.{keptLimit};
 ghost use Rattle.intake.specs.Standing.{Through};
-use feeding::KEPT_LIMIT;
+use intake_feeding::KEPT_LIMIT;
 use intake_lines::Phase;
 use libc::STDERR_FILENO;
 use libc::STDIN_FILENO;
@@ -71,7 +71,7 @@ fn work_through(
     let mut from = 0;
     while from < piece.len() {
         let phase = now.phase;
-        let fed = feeding::feed(
+        let fed = intake_feeding::feed(
             phase,
             now.kept,
             &piece[from..],
@@ -116,7 +116,7 @@ fn turn(
     let n = io::count(got, chunk);
     if n == 0 {
         let phase = standing.phase;
-        let end = feeding::finish(phase, standing.kept, line, table, code, workspace, out);
+        let end = intake_feeding::finish(phase, standing.kept, line, table, code, workspace, out);
         send(&out[..end]);
         return over();
     }

@@ -4,7 +4,7 @@ use mathlib.Core.List.{List, []}
 use Prim.Native.Nat.{ℕ, _+_, _*_}
 use Rattle.compiler.specs.declared.Compilation.{Compilation}
 use Rattle.compiler.specs.declared.Compilation.the-variants.{Rows, Refused}
-use Rattle.report.specs.Wrote.{Wrote}
+use Rattle.intake_report.specs.Wrote.{Wrote}
 use Rattle.intake_lines.specs.Intake.{registerCount, compiled, codeFrom, patternLine, lineFor}
 use Rattle.intake_lines.specs.declared.Phase.{Phase}
 use Rattle.intake_lines.specs.declared.Phase.the-variants.{Pattern, Texts, Over}

@@ -11,13 +11,13 @@ use Rattle.machine.specs.Steps.{run, steps}
 use Rattle.machine.specs.Layout.{sizeOf, rowsOf, past, anyByte}
 use Rattle.machine.specs.Words.{codeOf, rowIn, rowsPass, codePasses}
 use Rattle.machine.specs.Replies.{refusal, reply, registersAfter}
-use Rattle.atoms.specs.Escapes.{escapeAt}
-use Rattle.atoms.specs.Classes.{classAtom, classGo, classAt}
-use Rattle.atoms.specs.Braces.{numberGo, numberAt, bracesAt, quantifierAt}
-use Rattle.items.specs.Reading.{openingAt, itemBy, itemAt, sequenceGo, alternativesGo, reading}
-use Rattle.report.specs.Texts.{lf, digits, decimal, shownNumber, further, spaced, spansLine}
-use Rattle.report.specs.Texts.{headerLine, refusedAt, refusedRun, noneLine}
-use Rattle.report.specs.Lines.{linesOf}
+use Rattle.reading_atoms.specs.Escapes.{escapeAt}
+use Rattle.reading_atoms.specs.Classes.{classAtom, classGo, classAt}
+use Rattle.reading_atoms.specs.Braces.{numberGo, numberAt, bracesAt, quantifierAt}
+use Rattle.reading_items.specs.Reading.{openingAt, itemBy, itemAt, sequenceGo, alternativesGo, reading}
+use Rattle.intake_report.specs.Texts.{lf, digits, decimal, shownNumber, further, spaced, spansLine}
+use Rattle.intake_report.specs.Texts.{headerLine, refusedAt, refusedRun, noneLine}
+use Rattle.intake_report.specs.Lines.{linesOf}
 use Rattle.intake_lines.specs.Intake.{lineFor, intakeOutput}
 
 -- For `a|ab` and lines `ab`, `c`; a group that took no part, in a last line without LF; a refused pattern; no pattern line.

@@ -11,12 +11,12 @@ use Rattle.meaning.specs.Results.{concatMap}
 use Rattle.machine.specs.Steps.{searchRow}
 use Rattle.machine.specs.Words.{groupsSaid}
 use Rattle.machine.specs.Replies.{Reply, Reply.found, Reply.missing, Reply.refused, reply, registersAfter}
-use Rattle.items.specs.Reading.{reading}
+use Rattle.reading_items.specs.Reading.{reading}
 use Rattle.compiler.specs.Compiling.{answerBy, codeLeft}
 use Rattle.compiler.specs.declared.Compilation.{Compilation}
 use Rattle.compiler.specs.declared.Compilation.the-variants.{Rows, Refused}
-use Rattle.report.specs.Texts.{spansLine, headerLine, refusedAt, refusedRun, noneLine}
-use Rattle.report.specs.Lines.{linesOf}
+use Rattle.intake_report.specs.Texts.{spansLine, headerLine, refusedAt, refusedRun, noneLine}
+use Rattle.intake_report.specs.Lines.{linesOf}
 
 -- The bytes of a line, and registers for as many groups as there may be.
 abbrev pub lineLimit : ℕ

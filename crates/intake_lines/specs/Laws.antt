@@ -10,15 +10,15 @@ use Rattle.meaning.specs.Text.{registersOf}
 use Rattle.machine.specs.Steps.{searchRow}
 use Rattle.machine.specs.Words.{groupsSaid}
 use Rattle.machine.specs.Replies.{Reply, Reply.found, refusal, runOf, replyTo, reply, registersAfter}
-use Rattle.items.specs.Reading.{reading}
+use Rattle.reading_items.specs.Reading.{reading}
 use Rattle.compiler.specs.Compiling.{Compiles, answerBy, codeLeft}
 use Rattle.compiler.specs.declared.Compilation.{Compilation}
 use Rattle.engine.specs.Answers.{replyOf, Answered}
 use Rattle.engine.specs.Laws.{allowed}
 use Rattle.engine.specs.declared.Answer.{Answer}
 use Rattle.engine.specs.declared.Answer.the-variants.{Found}
-use Rattle.report.specs.Texts.{refusedRun}
-use Rattle.report.specs.Wrote.{Wrote, wrote-none, wrote-as}
+use Rattle.intake_report.specs.Texts.{refusedRun}
+use Rattle.intake_report.specs.Wrote.{Wrote, wrote-none, wrote-as}
 use Rattle.intake_lines.specs.Intake.{lineLimit, registerCount}
 use Rattle.meaning.specs.Limits.{tableSize, codeSize, workspaceSize}
 use Rattle.intake_lines.specs.Intake.{compiled, patternLine, replyLine, lineFor}

@@ -2,7 +2,7 @@
 // lent buffer.
 ghost use Prim.Native.Nat.{_+_, _≤_};
 ghost use lib.ListN.{length};
-ghost use Rattle.report.specs.Wrote.{Wrote};
+ghost use Rattle.intake_report.specs.Wrote.{Wrote};
 ghost use Rattle.intake_lines.specs.Intake.{lineFor};
 ghost use Rattle.intake_lines.specs.Ended.{lineRoom, Ends};
 ghost use Rattle.intake_lines.specs.declared.Phase.the-variants.{Pattern};
@@ -16,7 +16,7 @@ use millkettle::WORKSPACE_WORDS;
 pub const LINE_LIMIT: usize = 4096;
 
 // Registers for as many groups as there may be, and the most bytes that are written for a line.
-const REGISTERS: usize = 2 * (passing::GROUP_LIMIT as usize + 1);
+const REGISTERS: usize = 2 * (code_check::GROUP_LIMIT as usize + 1);
 
 pub const LINE_ROOM: usize = 12 * REGISTERS + 1;
 
@@ -45,16 +45,16 @@ fn put_text_line(
     ensures { λ r. ⌜ Wrote (now (out .entry)) (now (out .exit)) at (lineFor (now (code .entry)) (now (line .entry))) r ⌝ }
 {
     if line.len() > LINE_LIMIT {
-        return report::put_refused(out, at, engine::TEXT_TOO_LONG as u64);
+        return intake_report::put_refused(out, at, engine::TEXT_TOO_LONG as u64);
     }
     let mut registers = [0i32; REGISTERS];
     match millkettle::search(code, line, 0, &mut registers, workspace) {
         Answer::Found(_) => {
             let groups = code[1] as usize;
-            report::put_spans(out, at, &registers, 2 * (groups + 1))
+            intake_report::put_spans(out, at, &registers, 2 * (groups + 1))
         }
-        Answer::Missing(_) => report::put_none(out, at),
-        Answer::Refused(number) => report::put_refused(out, at, number as u64),
+        Answer::Missing(_) => intake_report::put_none(out, at),
+        Answer::Refused(number) => intake_report::put_refused(out, at, number as u64),
     }
 }
 
@@ -73,11 +73,11 @@ fn put_pattern_line(
     match millkettle::compile(pattern, table, code) {
         Compilation::Rows { rows, groups } => Ended {
             phase: Phase::Texts,
-            end: report::put_header(out, at, rows as u64, groups as u64),
+            end: intake_report::put_header(out, at, rows as u64, groups as u64),
         },
         Compilation::Refused { number, place } => Ended {
             phase: Phase::Over,
-            end: report::put_refused_at(out, at, number as u64, place as u64),
+            end: intake_report::put_refused_at(out, at, number as u64, place as u64),
         },
     }
 }

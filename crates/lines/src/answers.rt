@@ -17,7 +17,7 @@ pub fn say_number(what: &[u8], number: u64) {
 
 fn say_registers(registers: &[i32; 4]) {
     let mut line = [0u8; 80];
-    let end = report::put_spans(&mut line, 0, registers, 4);
+    let end = intake_report::put_spans(&mut line, 0, registers, 4);
     say(b": ");
     say(&line[0..end]);
 }

@@ -86,12 +86,12 @@ fn ask_at(input: &[u8], at: usize) -> usize
     requires { ⌜ at < length (now input) ⌝ }
     ensures { λ r. ⌜ (at < r) × (r ≤ length (now (input .entry))) ⌝ }
 {
-    let lf = report::find_lf(input, at, input.len());
+    let lf = intake_report::find_lf(input, at, input.len());
     if input.len() <= lf {
         return input.len();
     }
     let second = lf + 1;
-    let stop = report::find_lf(input, second, input.len());
+    let stop = intake_report::find_lf(input, second, input.len());
     ask(&input[at..lf], &input[second..stop]);
     if input.len() <= stop {
         return input.len();

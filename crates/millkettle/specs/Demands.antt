@@ -13,7 +13,7 @@ use Rattle.machine.specs.Replies.{refusal, runOf}
 use Rattle.compiler.specs.Compiling.{Compiles}
 use Rattle.compiler.specs.declared.Compilation.{Compilation}
 use Rattle.compiler.specs.declared.Compilation.the-variants.{Rows}
-use Rattle.tidied.specs.Compiling.{CompilesTidied}
+use Rattle.compiler_tidied.specs.Compiling.{CompilesTidied}
 use Rattle.engine.specs.Answers.{replyOf, executed, Answered}
 use Rattle.engine.specs.declared.Answer.{Answer}
 use Rattle.engine.specs.declared.Answer.the-variants.{Refused}

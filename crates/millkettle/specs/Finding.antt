@@ -16,10 +16,10 @@ use Rattle.meaning.specs.Standard.{searchFrom}
 use Rattle.machine.specs.Layout.{programOf}
 use Rattle.machine.specs.Steps.{run, count, searchRow}
 use Rattle.machine.specs.Replies.{Reply, Reply.found, Reply.missing, Reply.refused, spans}
-use Rattle.items.specs.Reading.{Reading, Reading.pattern, Reading.refused as unread, reading}
-use Rattle.rows.specs.Emission.{rowsNeeded, emission}
-use Rattle.rows.specs.declared.Emission.{Emission}
-use Rattle.rows.specs.declared.Emission.the-variants.{Rows, TooMany, TooShort}
+use Rattle.reading_items.specs.Reading.{Reading, Reading.pattern, Reading.refused as unread, reading}
+use Rattle.code_rows.specs.Emission.{rowsNeeded, emission}
+use Rattle.code_rows.specs.declared.Emission.{Emission}
+use Rattle.code_rows.specs.declared.Emission.the-variants.{Rows, TooMany, TooShort}
 use Rattle.compiler.specs.Compiling.{tableAt, codeAt}
 use Rattle.engine.specs.Answers.{replyOf}
 use Rattle.engine.specs.declared.Answer.{Answer}

@@ -12,10 +12,10 @@ use Rattle.machine.specs.Steps.{Machine, run, best, count, searchRow}
 use Rattle.machine.specs.Words.{groupsSaid}
 use Rattle.machine.specs.Replies.{Reply.refused, runOf, answerOf, replyTo, reply}
 use Rattle.machine.specs.Replies.{spans, registersFrom, registersAfter}
-use Rattle.items.specs.Reading.{Reading, Reading.pattern, Reading.refused, reading}
-use Rattle.rows.specs.Emission.{emission}
-use Rattle.rows.specs.declared.Emission.{Emission}
-use Rattle.rows.specs.declared.Emission.the-variants.{Rows as Emitted, TooMany, TooShort}
+use Rattle.reading_items.specs.Reading.{Reading, Reading.pattern, Reading.refused, reading}
+use Rattle.code_rows.specs.Emission.{emission}
+use Rattle.code_rows.specs.declared.Emission.{Emission}
+use Rattle.code_rows.specs.declared.Emission.the-variants.{Rows as Emitted, TooMany, TooShort}
 use Rattle.compiler.specs.Compiling.{answerFor, answerBy, tableAt, codeAt, Compiles}
 use Rattle.compiler.specs.declared.Compilation.{Compilation}
 use Rattle.compiler.specs.declared.Compilation.the-variants.{Rows, Refused as Turned}

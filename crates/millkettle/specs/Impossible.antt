@@ -14,8 +14,8 @@ use Rattle.meaning.specs.Standard.{matcher, matchAt, searchFrom}
 use Rattle.machine.specs.Steps.{steps, run}
 use Rattle.machine.specs.Layout.{sizeOf, rowsOf, anyByte}
 use Rattle.machine.specs.Words.{codeOf}
-use Rattle.atoms.specs.Braces.{quantifierAt}
-use Rattle.items.specs.Reading.{openingAt, itemBy, itemAt, sequenceGo, alternativesGo, reading}
+use Rattle.reading_atoms.specs.Braces.{quantifierAt}
+use Rattle.reading_items.specs.Reading.{openingAt, itemBy, itemAt, sequenceGo, alternativesGo, reading}
 use Rattle.compiler.specs.Compiling.{codeAt, Compiles}
 use Rattle.compiler.specs.declared.Compilation.{Compilation}
 use Rattle.millkettle.specs.Finding.{lentBy, finding, spansLeft, counted, Finds}

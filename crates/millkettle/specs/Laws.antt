@@ -21,12 +21,12 @@ use Rattle.machine.specs.Words.{codeOf, codePasses, decode, rowsSaid, groupsSai
 use Rattle.machine.specs.Coded.{compiled-says, rowsIn-length}
 use Rattle.machine.specs.Answers.{matched, searched}
 use Rattle.machine.specs.Replies.{refusal}
-use Rattle.items.specs.Facts.{fair-proper}
-use Rattle.items.specs.Reading.{Reading.pattern, reading}
-use Rattle.items.specs.Read.{what-is-read}
-use Rattle.rows.specs.Emission.{rowsNeeded, emission, codeEmitted, emitted-passes}
-use Rattle.rows.specs.declared.Emission.{Emission}
-use Rattle.rows.specs.declared.Emission.the-variants.{Rows as Emitted, TooMany, TooShort}
+use Rattle.reading_items.specs.Facts.{fair-proper}
+use Rattle.reading_items.specs.Reading.{Reading.pattern, reading}
+use Rattle.reading_items.specs.Read.{what-is-read}
+use Rattle.code_rows.specs.Emission.{rowsNeeded, emission, codeEmitted, emitted-passes}
+use Rattle.code_rows.specs.declared.Emission.{Emission}
+use Rattle.code_rows.specs.declared.Emission.the-variants.{Rows as Emitted, TooMany, TooShort}
 use Rattle.compiler.specs.Compiling.{answerFor, answerBy, codeLeft, compilation, codeAt}
 use Rattle.compiler.specs.Laws.{Passed, compiled-passes}
 use Rattle.compiler.specs.declared.Compilation.the-variants.{Rows}

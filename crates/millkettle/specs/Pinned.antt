@@ -6,7 +6,7 @@ use lib.IntN.{ℤ}
 use lib.ListN.{length}
 use Rattle.compiler.specs.Compiling.{Compiles}
 use Rattle.compiler.specs.declared.Compilation.{Compilation}
-use Rattle.tidied.specs.Compiling.{CompilesTidied}
+use Rattle.compiler_tidied.specs.Compiling.{CompilesTidied}
 use Rattle.engine.specs.Answers.{Answered}
 use Rattle.engine.specs.Pinned.{same-answer}
 use Rattle.engine.specs.declared.Answer.{Answer}

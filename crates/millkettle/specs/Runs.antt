@@ -12,7 +12,7 @@ use Rattle.meaning.specs.Node.{Node}
 use Rattle.machine.specs.Steps.{best, count}
 use Rattle.machine.specs.Words.{rowsSaid, groupsSaid}
 use Rattle.machine.specs.Replies.{Reply.refused, refusal, runOf, answerOf, replyTo, reply, spans, registersFrom, registersAfter}
-use Rattle.items.specs.Reading.{Reading.pattern, reading}
+use Rattle.reading_items.specs.Reading.{Reading.pattern, reading}
 use Rattle.compiler.specs.Compiling.{Compiles}
 use Rattle.compiler.specs.declared.Compilation.the-variants.{Rows}
 use Rattle.engine.specs.Answers.{replyOf, executed, Answered}

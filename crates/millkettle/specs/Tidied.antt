@@ -17,30 +17,30 @@ use Rattle.meaning.specs.Bytes.{Bytes, asserts, textOf}
 use Rattle.meaning.specs.Node.{Node}
 use Rattle.meaning.specs.Numbering.{Numbers}
 use Rattle.machine.specs.Replies.{Reply, Reply.found, Reply.missing, Reply.refused, answerOf, spans}
-use Rattle.laws.specs.Alike.{Alike}
-use Rattle.laws.specs.Around.{Around, fill}
-use Rattle.laws.specs.Kept.{Each}
-use Rattle.laws.specs.Void.{fair}
-use Rattle.laws.specs.Within.{Stands}
-use Rattle.laws.specs.Words.{words}
-use Rattle.laws.specs.Tidier.{tidy}
-use Rattle.laws.specs.Tidy.{tidy-alike, tidy-numbers, tidy-proper, tidy-rows, tidy-match, tidy-search}
-use Rattle.items.specs.Facts.{fair-proper}
-use Rattle.items.specs.Kept.{Read}
-use Rattle.items.specs.Read.{atom-laws, what-is-read}
-use Rattle.items.specs.Reading.{Reading.pattern, Reading.refused, reading}
-use Rattle.rows.specs.Emission.{rowsNeeded, emission, codeEmitted}
-use Rattle.rows.specs.declared.Emission.{Emission}
-use Rattle.rows.specs.declared.Emission.the-variants.{Rows as Emitted, TooMany, TooShort}
+use Rattle.tidying_laws.specs.Alike.{Alike}
+use Rattle.tidying_laws.specs.Around.{Around, fill}
+use Rattle.tidying_laws.specs.Kept.{Each}
+use Rattle.tidying_laws.specs.Void.{fair}
+use Rattle.tidying_laws.specs.Within.{Stands}
+use Rattle.tidying_laws.specs.Words.{words}
+use Rattle.tidying_laws.specs.Tidier.{tidy}
+use Rattle.tidying_laws.specs.Tidy.{tidy-alike, tidy-numbers, tidy-proper, tidy-rows, tidy-match, tidy-search}
+use Rattle.reading_items.specs.Facts.{fair-proper}
+use Rattle.reading_items.specs.Kept.{Read}
+use Rattle.reading_items.specs.Read.{atom-laws, what-is-read}
+use Rattle.reading_items.specs.Reading.{Reading.pattern, Reading.refused, reading}
+use Rattle.code_rows.specs.Emission.{rowsNeeded, emission, codeEmitted}
+use Rattle.code_rows.specs.declared.Emission.{Emission}
+use Rattle.code_rows.specs.declared.Emission.the-variants.{Rows as Emitted, TooMany, TooShort}
 use Rattle.compiler.specs.Compiling.{Compiles}
 use Rattle.compiler.specs.declared.Compilation.{Compilation}
 use Rattle.compiler.specs.declared.Compilation.the-variants.{Rows}
 use Rattle.engine.specs.Answers.{replyOf, executed, Answered}
 use Rattle.engine.specs.declared.Answer.{Answer}
-use Rattle.tidied.specs.Compiling.{manyRows, tidiedEmission, answerBy, codeLeft}
-use Rattle.tidied.specs.Compiling.{tidiedCompilation, tidiedTableAt, tidiedCodeAt, CompilesTidied}
-use Rattle.tidied.specs.Laws.{Passed, compiled-passes}
-use Rattle.tidier.specs.Held.{tableOf}
+use Rattle.compiler_tidied.specs.Compiling.{manyRows, tidiedEmission, answerBy, codeLeft}
+use Rattle.compiler_tidied.specs.Compiling.{tidiedCompilation, tidiedTableAt, tidiedCodeAt, CompilesTidied}
+use Rattle.compiler_tidied.specs.Laws.{Passed, compiled-passes}
+use Rattle.tidying.specs.Held.{tableOf}
 use Rattle.millkettle.specs.Finding.{Lent, lentBy, turnedAway}
 use Rattle.millkettle.specs.Laws.{only-emitted, Coded, coded, Made, made}
 use Rattle.millkettle.specs.Laws.{Way, Way.matching, Way.searching, rowOf, standardBy, within}

@@ -11,17 +11,17 @@ use Rattle.meaning.specs.Node.{lo, hi}
 use Rattle.meaning.specs.Flat.{parts}
 use Rattle.machine.specs.Layout.{sizeOf}
 use Rattle.table.specs.Table.{recordsIn, ownRecord, wordsIn}
-use Rattle.laws.specs.Groups.{groups, groupFree}
-use Rattle.laws.specs.Void.{noBytes}
-use Rattle.laws.specs.Equal.{same, decList, decOption}
-use Rattle.laws.specs.Measures.{weight}
-use Rattle.laws.specs.Laws.{t1, t2, t3, t4, t5, t6, t7, t8, t9, laws, filled, distinct, possible, run, glues, share}
-use Rattle.laws.specs.Tidier.{places, lowest, found, tidyStep, tidies, tidy}
-use Rattle.atoms.specs.Braces.{numberGo, numberAt, bracesAt, quantifierAt}
-use Rattle.items.specs.Reading.{openingAt, itemBy, itemAt, sequenceGo, alternativesGo, reading}
+use Rattle.tidying_laws.specs.Groups.{groups, groupFree}
+use Rattle.tidying_laws.specs.Void.{noBytes}
+use Rattle.tidying_laws.specs.Equal.{same, decList, decOption}
+use Rattle.tidying_laws.specs.Measures.{weight}
+use Rattle.tidying_laws.specs.Laws.{t1, t2, t3, t4, t5, t6, t7, t8, t9, laws, filled, distinct, possible, run, glues, share}
+use Rattle.tidying_laws.specs.Tidier.{places, lowest, found, tidyStep, tidies, tidy}
+use Rattle.reading_atoms.specs.Braces.{numberGo, numberAt, bracesAt, quantifierAt}
+use Rattle.reading_items.specs.Reading.{openingAt, itemBy, itemAt, sequenceGo, alternativesGo, reading}
 use Rattle.compiler.specs.Compiling.{tableAt}
 use Rattle.compiler.specs.declared.Compilation.{Compilation}
-use Rattle.tidied.specs.Compiling.{tidiedTableAt, CompilesTidied}
+use Rattle.compiler_tidied.specs.Compiling.{tidiedTableAt, CompilesTidied}
 
 -- Buffers of zeros that are enough for a pattern of four bytes.
 abbrev pub table : List ℕ

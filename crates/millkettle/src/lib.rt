@@ -3,7 +3,7 @@
 ghost use mathlib.Core.Path.{_≡_};
 ghost use Rattle.machine.specs.Steps.{searchRow, matchRow};
 ghost use Rattle.compiler.specs.Compiling.{Compiles};
-ghost use Rattle.tidied.specs.Compiling.{CompilesTidied};
+ghost use Rattle.compiler_tidied.specs.Compiling.{CompilesTidied};
 ghost use Rattle.engine.specs.Answers.{Answered};
 ghost use Rattle.millkettle.specs.Finding.{findingOf, Finds};
 use compiler::Compilation;
@@ -38,7 +38,7 @@ pub fn compile_tidied(pattern: &[u8], table: &mut [u32], code: &mut [u32]) -> Co
     ensures { λ r. ⌜ CompilesTidied (now (pattern .entry)) (now (table .entry)) (now (table .exit)) (now (code .entry))
         (now (code .exit)) r ⌝ }
 {
-    tidied::compile_tidied(pattern, table, code)
+    compiler_tidied::compile_tidied(pattern, table, code)
 }
 
 // Whether code matches at the start. Answers found or none with the count of rows executed, or refuses by 20 to 24 and changes

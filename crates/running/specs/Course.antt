@@ -18,16 +18,16 @@ use Rattle.machine.specs.Coded.{rowsIn-length}
 use Rattle.machine.specs.Bound.{Bound, begins, after, stays}
 use Rattle.machine.specs.Passed.{leads, frugal, run-done}
 use Rattle.machine.specs.Replies.{runOf}
-use Rattle.moves.specs.Ready.{Ready}
-use Rattle.threads.specs.Words.{wordsAt}
-use Rattle.threads.specs.Threads.{keyOf, nowhere, regOf, threadOf, held}
-use Rattle.threads.specs.Held.{Laid, queued}
-use Rattle.threads.specs.Laws.{words-eq}
-use Rattle.threads.specs.declared.Plan.{Plan}
-use Rattle.threads.specs.declared.Spot.{Spot}
-use Rattle.settle.specs.Moved.{bestOf, Serves, Sees, movesOf, Leads, Opens, SettledAs}
-use Rattle.settle.specs.Means.{key-of, reg-none, add-steps, leads-here, leads-step, leads-to, leads-on}
-use Rattle.settle.specs.declared.Settled.{Settled}
+use Rattle.running_moves.specs.Ready.{Ready}
+use Rattle.running_threads.specs.Words.{wordsAt}
+use Rattle.running_threads.specs.Threads.{keyOf, nowhere, regOf, threadOf, held}
+use Rattle.running_threads.specs.Held.{Laid, queued}
+use Rattle.running_threads.specs.Laws.{words-eq}
+use Rattle.running_threads.specs.declared.Plan.{Plan}
+use Rattle.running_threads.specs.declared.Spot.{Spot}
+use Rattle.running_settle.specs.Moved.{bestOf, Serves, Sees, movesOf, Leads, Opens, SettledAs}
+use Rattle.running_settle.specs.Means.{key-of, reg-none, add-steps, leads-here, leads-step, leads-to, leads-on}
+use Rattle.running_settle.specs.declared.Settled.{Settled}
 use Rattle.running.specs.Ran.{PlanOf, SpotAt, Prepared, RanAs}
 use Rattle.running.specs.declared.Ran.{Ran}
 use Rattle.running.specs.Positions.{laid-next, opens-next, plan-fits}

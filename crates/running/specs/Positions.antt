@@ -15,15 +15,15 @@ use Rattle.machine.specs.Steps.{best}
 use Rattle.machine.specs.Steps.{run}
 use Rattle.machine.specs.Words.{rowsSaid, groupsSaid}
 use Rattle.machine.specs.Bound.{after}
-use Rattle.moves.specs.Chosen.{byteOf}
-use Rattle.threads.specs.Words.{Below, Only, wordsAt}
-use Rattle.threads.specs.Threads.{nowhere}
-use Rattle.threads.specs.Held.{Planned, Laid, queued}
-use Rattle.threads.specs.Laws.{words-at, words-eq}
-use Rattle.threads.specs.declared.Plan.{Plan}
-use Rattle.threads.specs.declared.Spot.{Spot}
-use Rattle.settle.specs.Moved.{Serves, Opens, SettledAs}
-use Rattle.settle.specs.declared.Settled.{Settled}
+use Rattle.running_moves.specs.Chosen.{byteOf}
+use Rattle.running_threads.specs.Words.{Below, Only, wordsAt}
+use Rattle.running_threads.specs.Threads.{nowhere}
+use Rattle.running_threads.specs.Held.{Planned, Laid, queued}
+use Rattle.running_threads.specs.Laws.{words-at, words-eq}
+use Rattle.running_threads.specs.declared.Plan.{Plan}
+use Rattle.running_threads.specs.declared.Spot.{Spot}
+use Rattle.running_settle.specs.Moved.{Serves, Opens, SettledAs}
+use Rattle.running_settle.specs.declared.Settled.{Settled}
 use Rattle.running.specs.Ran.{PlanOf, SpotAt, Prepared}
 
 -- ---- bytes

@@ -10,12 +10,12 @@ use Rattle.meaning.specs.Limits.{workspaceWords}
 use Rattle.machine.specs.Steps.{best, count}
 use Rattle.machine.specs.Words.{rowsSaid, groupsSaid}
 use Rattle.machine.specs.Replies.{runOf}
-use Rattle.threads.specs.Words.{Below, wordsAt}
-use Rattle.threads.specs.Threads.{nowhere}
-use Rattle.threads.specs.Held.{Planned}
-use Rattle.threads.specs.declared.Plan.{Plan}
-use Rattle.threads.specs.declared.Spot.{Spot}
-use Rattle.settle.specs.Moved.{bestOf, Sees}
+use Rattle.running_threads.specs.Words.{Below, wordsAt}
+use Rattle.running_threads.specs.Threads.{nowhere}
+use Rattle.running_threads.specs.Held.{Planned}
+use Rattle.running_threads.specs.declared.Plan.{Plan}
+use Rattle.running_threads.specs.declared.Spot.{Spot}
+use Rattle.running_settle.specs.Moved.{bestOf, Sees}
 use Rattle.running.specs.declared.Ran.{Ran}
 
 -- A plan for n rows and g groups.

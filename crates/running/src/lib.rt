@@ -6,14 +6,14 @@ ghost use lib.ListN.{length};
 ghost use Rattle.meaning.specs.Text.{byteBefore, byteAfter};
 ghost use Rattle.meaning.specs.Limits.{workspaceWords};
 ghost use Rattle.machine.specs.Words.{rowsSaid, groupsSaid};
-ghost use Rattle.moves.specs.Chosen.{byteOf};
-ghost use Rattle.moves.specs.Ready.{Ready};
-ghost use Rattle.threads.specs.Held.{Planned};
+ghost use Rattle.running_moves.specs.Chosen.{byteOf};
+ghost use Rattle.running_moves.specs.Ready.{Ready};
+ghost use Rattle.running_threads.specs.Held.{Planned};
 ghost use Rattle.running.specs.Ran.{PlanOf, SpotAt, Prepared, RanAs};
-use moves::NO_BYTE;
-use threads::NOWHERE;
-use threads::Plan;
-use threads::Spot;
+use running_moves::NO_BYTE;
+use running_threads::NOWHERE;
+use running_threads::Plan;
+use running_threads::Spot;
 
 // Whether a thread won, the count of rows executed, and where the registers of the result lie: all -1 if none won.
 pub struct Ran {
@@ -107,10 +107,10 @@ fn prepare(work: &mut [u32], l: Plan, row: usize)
     let registers = l.olds + l.depth;
     let best = l.best;
     let width = l.width;
-    threads::fill(work, 0, keys, 0);
+    running_threads::fill(work, 0, keys, 0);
     work[keys] = (row * 2 + 1) as u32;
-    threads::fill(work, registers, width, NOWHERE);
-    threads::fill(work, best, width, NOWHERE);
+    running_threads::fill(work, registers, width, NOWHERE);
+    running_threads::fill(work, best, width, NOWHERE);
 }
 
 // The run of code on a text from a position and a row to its end.
@@ -120,14 +120,14 @@ pub fn run(code: &[u32], text: &[u8], start: usize, row: usize, work: &mut [u32]
     requires { ⌜ workspaceWords (rowsSaid (now code)) (groupsSaid (now code)) ≤ length (now work) ⌝ }
     ensures { λ r. ⌜ RanAs (now (code .entry)) (now (text .entry)) start row (now (work .entry)) (now (work .exit)) r ⌝ }
 {
-    let l = plan_of(threads::wide(code[0]), threads::wide(code[1]));
+    let l = plan_of(running_threads::wide(code[0]), running_threads::wide(code[1]));
     prepare(work, l, row);
     let first = l.olds + l.depth;
     let mut sp = spot_at(text, start, l.keys, first, 1, l.keys * 2, first + l.depth);
     let mut found = false;
     let mut count: u64 = 0;
     loop {
-        let x = settle::settle(code, work, l, sp);
+        let x = running_settle::settle(code, work, l, sp);
         count += x.ran as u64;
         found = either(found, x.accept);
         if x.queued == 0 {

@@ -1,7 +1,7 @@
 -- What was read is written, or refused, as the reading and the number of rows say.
 use mathlib.Core.Path.{refl}
-use Rattle.atoms.specs.Places.{bytes-of}
-use Rattle.rows.specs.declared.Emission.the-variants.{TooMany, TooShort}
+use Rattle.reading_atoms.specs.Places.{bytes-of}
+use Rattle.code_rows.specs.declared.Emission.the-variants.{TooMany, TooShort}
 use Rattle.compiler.specs.Laws.{given, given-some, turned-away, made, unmade}
 use borrow.Author.Needs.{needs}
 use Rattle.compiler.proofs.compile.Statement.{statement}
@@ -9,8 +9,8 @@ use Rattle.compiler.proofs.compile.Tie as tie
 use Rattle.compiler.proofs.compile.Reads as reads
 use Rattle.compiler.proofs.compile.Lts as lts
 use Rattle.compiler.proofs.without_program.Reads as without-program-reads
-use Rattle.pattern.proofs.read.Reads as read-reads
-use Rattle.rows.proofs.emit.Reads as emit-reads
+use Rattle.reading.proofs.read.Reads as read-reads
+use Rattle.code_rows.proofs.emit.Reads as emit-reads
 
 -- src/lib.rt:31:11
 read-requires : tie.Need-read-requires

@@ -6,7 +6,7 @@ use Rattle.compiler.proofs.without_program.Statement.{statement}
 use Rattle.compiler.proofs.without_program.Tie as tie
 use Rattle.compiler.proofs.without_program.Reads as reads
 use Rattle.compiler.proofs.without_program.Lts as lts
-use Rattle.items.proofs.clear.Reads as clear-reads
+use Rattle.reading_items.proofs.clear.Reads as clear-reads
 
 -- src/lib.rt:22:5
 clear-requires : tie.Need-clear-requires

@@ -6,7 +6,7 @@ use mathlib.Core.Path.{_≡_, refl, _∙_, ap}
 use mathlib.Core.List.{_++_, map}
 use native.Mathlib.Omega.{arith}
 use lib.ListN.{length, length-set, drop}
-use Rattle.threads.specs.Words.{wordsAt}
+use Rattle.running_threads.specs.Words.{wordsAt}
 use Rattle.engine.specs.Answers.{shownWord}
 use Rattle.engine.specs.Laws.{shown-more, read-back}
 use Rattle.engine.proofs.copy_out.Statement.{statement}

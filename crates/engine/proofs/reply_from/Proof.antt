@@ -1,7 +1,7 @@
 use mathlib.Core.Path.{_∙_, sym}
 use native.Mathlib.Omega.{arith}
 use lib.ListN.{length}
-use Rattle.moves.specs.Ready.{ready}
+use Rattle.running_moves.specs.Ready.{ready}
 use Rattle.engine.specs.Laws.{text-small, allowed, refused-answer, found-answer, missing-answer, with-registers}
 use borrow.Author.Needs.{needs}
 use Rattle.engine.proofs.reply_from.Statement.{statement}

@@ -2,7 +2,7 @@ use Prim.Native.Nat.{ℕ, _+_, _*_, _<_, _≤_}
 use mathlib.Core.Path.{_∙_, sym, ap₂, subst}
 use native.Mathlib.Omega.{arith}
 use borrow.Author.Tests.{not-true, not-false}
-use Rattle.moves.specs.Ready.{ready}
+use Rattle.running_moves.specs.Ready.{ready}
 use Rattle.engine.specs.Laws.{refuses-code, refuses-text, refuses-start, refuses-registers, refuses-workspace}
 use Rattle.engine.specs.Laws.{refuses-nothing, words-few}
 use borrow.Author.Needs.{needs}
@@ -10,8 +10,8 @@ use Rattle.engine.proofs.turned_away.Statement.{statement}
 use Rattle.engine.proofs.turned_away.Tie as tie
 use Rattle.engine.proofs.turned_away.Reads as reads
 use Rattle.engine.proofs.turned_away.Lts as lts
-use Rattle.passing.proofs.check.Reads as check-reads
-use Rattle.threads.proofs.wide.Reads as wide-reads
+use Rattle.code_check.proofs.check.Reads as check-reads
+use Rattle.running_threads.proofs.wide.Reads as wide-reads
 
 check-requires : tie.Need-check-requires
 check-requires c κs = search needs

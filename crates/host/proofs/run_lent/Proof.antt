@@ -4,7 +4,7 @@ use Prim.Native.Nat.{ℕ}
 use native.Mathlib.Omega.{arith}
 use lib.IntN.{ℤ, pos}
 use lib.ListN.{length, length-replicate}
-use Rattle.atoms.specs.Places.{bytes-of}
+use Rattle.reading_atoms.specs.Places.{bytes-of}
 use Rattle.meaning.specs.Limits.{codeSize, workspaceSize}
 use Rattle.host.specs.Sizes.{registerCount}
 use Rattle.host.specs.Surface.{lentWords}

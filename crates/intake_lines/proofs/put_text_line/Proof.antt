@@ -2,7 +2,7 @@
 use mathlib.Core.Path.{refl}
 use native.Mathlib.Omega.{arith}
 use borrow.Author.Needs.{needs}
-use Rattle.report.specs.Wrote.{wrote-as}
+use Rattle.intake_report.specs.Wrote.{wrote-as}
 use Rattle.intake_lines.specs.Laws.{too-long, answer-line, few-numbers}
 use Rattle.intake_lines.proofs.put_text_line.Statement.{statement}
 use Rattle.intake_lines.proofs.put_text_line.Tie as tie

@@ -1,6 +1,6 @@
 -- A pattern that is refused, and one whose code runs.
 use borrow.Author.Needs.{needs}
-use Rattle.atoms.specs.Places.{bytes-of}
+use Rattle.reading_atoms.specs.Places.{bytes-of}
 use Rattle.millkettle.specs.Found.{refused-finds, run-finds}
 use Rattle.millkettle.proofs.find.Statement.{statement}
 use Rattle.millkettle.proofs.find.Tie as tie

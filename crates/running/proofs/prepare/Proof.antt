@@ -8,7 +8,7 @@ use Rattle.running.proofs.prepare.Statement.{statement}
 use Rattle.running.proofs.prepare.Tie as tie
 use Rattle.running.proofs.prepare.Reads as reads
 use Rattle.running.proofs.prepare.Lts as lts
-use Rattle.threads.proofs.fill.Reads as fill-reads
+use Rattle.running_threads.proofs.fill.Reads as fill-reads
 
 add-registers : tie.Need-add-registers
 add-registers c = search needs

@@ -16,8 +16,8 @@ use Rattle.running.proofs.either.Reads as either-reads
 use Rattle.running.proofs.plan_of.Reads as plan-of-reads
 use Rattle.running.proofs.prepare.Reads as prepare-reads
 use Rattle.running.proofs.spot_at.Reads as spot-at-reads
-use Rattle.settle.proofs.settle.Reads as settle-reads
-use Rattle.threads.proofs.wide.Reads as wide-reads
+use Rattle.running_settle.proofs.settle.Reads as settle-reads
+use Rattle.running_threads.proofs.wide.Reads as wide-reads
 
 abbrev Inv-loop : tie.InvT-loop
 Inv-loop code text start row work₀ l first sp₀ found₀ count₀ work sp found count =

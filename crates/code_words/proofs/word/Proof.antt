@@ -1,0 +1,13 @@
+-- The word that is read is the record's.
+use mathlib.Core.Path.{refl}
+use borrow.Author.Needs.{needs}
+use Rattle.code_words.proofs.word.Statement.{statement}
+use Rattle.code_words.proofs.word.Tie as tie
+
+returns : tie.Need-returns
+returns c = refl
+
+pub word-spec : {M : Type 1} → statement M
+word-spec =
+    tie.close
+    (tie.spec (λ c. search needs) (λ c. search needs) (λ c. search needs) (λ c. search needs) (λ c. search needs) returns)

@@ -1,0 +1,96 @@
+// Rows as words: one row is written before row `end`, and the answer is the row where it begins.
+ghost use mathlib.Core.Path.{_≡_};
+ghost use mathlib.Core.List.{_∷_, _++_};
+ghost use Prim.Native.Nat.{_+_, _-_, _*_, _≤_, _<_};
+ghost use lib.ListN.{length, take, drop};
+ghost use Rattle.meaning.specs.Limits.{rowWords};
+ghost use Rattle.machine.specs.Words.{plainWords};
+ghost use Rattle.table.specs.Table.{recordWords};
+ghost use Rattle.code_words.specs.Wrote.{wordOf, Room, Wrote};
+use code_check::CONSUME;
+use code_check::ROW_WORDS;
+
+// The words of a record, and where its set begins.
+const RECORD_WORDS: usize = 16;
+
+pub const RECORDS: usize = 2;
+
+const SET: usize = 8;
+
+// Word `which` of the record before record number `top`.
+pub fn word(table: &[u32], top: usize, which: usize) -> u32
+    requires { ⌜ (0 < top) × (which < recordWords) × (recordWords * top ≤ length (now table)) ⌝ }
+    ensures { λ r. ⌜ r ≡ wordOf (now (table .entry)) top which ⌝ }
+{
+    table[RECORD_WORDS * (top - 1) + which]
+}
+
+// Where the part before the one that ends at `top` ends.
+pub fn previous(table: &[u32], top: usize) -> usize
+    requires { ⌜ (0 < top) × (recordWords * top ≤ length (now table)) × (wordOf (now table) top 2 ≤ top) ⌝ }
+    ensures { λ r. ⌜ r ≡ top - wordOf (now (table .entry)) top 2 ⌝ }
+{
+    top - word(table, top, RECORDS) as usize
+}
+
+// The byte set of that record.
+pub fn set_of(table: &[u32], top: usize) -> [u32; 8]
+    requires { ⌜ (0 < top) × (recordWords * top ≤ length (now table)) ⌝ }
+    ensures { λ r. ⌜ r ≡ take 8 (drop (recordWords * (top - 1) + 8) (now (table .entry))) ⌝ }
+{
+    let mut set = [0u32; 8];
+    for i in 0..8usize {
+        set[i] = word(table, top, SET + i);
+    }
+    set
+}
+
+// The words of a row that has two operands and no set.
+pub fn plain(kind: u32, a: u32, b: u32) -> [u32; 12]
+    ensures { λ r. ⌜ r ≡ plainWords kind a b ⌝ }
+{
+    let mut row = [0u32; 12];
+    row[0] = kind;
+    row[1] = a;
+    row[2] = b;
+    row
+}
+
+// The words of a row that consumes a byte of a set.
+pub fn consuming(set: [u32; 8]) -> [u32; 12]
+    ensures { λ r. ⌜ r ≡ 2 ∷ 0 ∷ 0 ∷ 0 ∷ set ⌝ }
+{
+    let mut row = plain(CONSUME, 0, 0);
+    for i in 0..8usize {
+        row[4 + i] = set[i];
+    }
+    row
+}
+
+// Writes twelve words from word `start` on.
+pub fn place(code: &mut [u32], start: usize, row: [u32; 12])
+    requires { ⌜ start + rowWords ≤ length (now code) ⌝ }
+    ensures { λ r. ⌜ now (code .exit) ≡ take start (now (code .entry)) ++
+        (row ++ drop (start + rowWords) (now (code .entry))) ⌝ }
+{
+    for i in 0..12usize {
+        code[start + i] = row[i];
+    }
+}
+
+// Writes a row before row `end`.
+pub fn put_before(code: &mut [u32], end: usize, row: [u32; 12]) -> usize
+    requires { ⌜ (0 < end) × Room (now code) end ⌝ }
+    ensures { λ r. ⌜ Wrote (now (code .entry)) (now (code .exit)) r end 1 row ⌝ }
+{
+    place(code, ROW_WORDS * end, row);
+    end - 1
+}
+
+// Writes a row that has two operands and no set.
+pub fn row_before(code: &mut [u32], end: usize, kind: u32, a: u32, b: u32) -> usize
+    requires { ⌜ (0 < end) × Room (now code) end ⌝ }
+    ensures { λ r. ⌜ Wrote (now (code .entry)) (now (code .exit)) r end 1 (plainWords kind a b) ⌝ }
+{
+    put_before(code, end, plain(kind, a, b))
+}

@@ -1,0 +1,11 @@
+-- One store.
+use borrow.Author.Needs.{needs}
+use Rattle.intake_report.specs.Wrote.{wrote-one}
+use Rattle.intake_report.proofs.put_byte.Statement.{statement}
+use Rattle.intake_report.proofs.put_byte.Tie as tie
+
+returns : tie.Need-returns
+returns c = wrote-one (c .args .out .now) (c .args .at) (c .args .byte) (c .pre)
+
+pub put-byte-spec : {M : Type 1} → statement M
+put-byte-spec = tie.close (tie.spec (λ c. search needs) (λ c. search needs) (λ c. search needs) returns)

@@ -1,0 +1,28 @@
+use Rattle.reading_items.proofs.Putting.{assert-putting, assert-meets}
+use borrow.Author.Needs.{needs}
+use Rattle.reading_items.proofs.leaves.assertion.Statement.{statement}
+use Rattle.reading_items.proofs.leaves.assertion.Tie as tie
+use Rattle.reading_items.proofs.leaves.assertion.Reads as reads
+use Rattle.reading_items.proofs.leaves.assertion.Lts as lts
+use Rattle.table.proofs.put.Reads as put-reads
+
+-- src/leaves.rt:34:5
+put-requires : tie.Need-put-requires
+put-requires c κs = assert-putting ((c .before .before) .args .number) ((c .before .before) .pre)
+
+-- src/leaves.rt:35:26
+add-t10 : tie.Need-add-t10
+add-t10 c = search needs
+
+-- src/leaves.rt:30:1
+same-length : tie.Need-same-length
+same-length c = search needs
+
+-- src/leaves.rt:30:1
+returns : tie.Need-returns
+returns c = assert-meets ((c .before .before .before .before .before) .args .at)
+    ((c .before .before .before .before .before) .args .groups) ((c .before .before .before .before .before) .pre)
+    ((c .before .before .put) .ensures)
+
+pub assertion-spec : {M : Type 1} → statement M
+assertion-spec = tie.close (tie.spec put-requires add-t10 same-length returns)

@@ -1,0 +1,55 @@
+use Prim.Native.Nat.{_*_}
+use lib.ListN.{take}
+use Rattle.meaning.specs.Node.{Node.bset}
+use Rattle.table.specs.Table.{recordWords}
+use Rattle.reading_items.proofs.Putting.{set-putting, set-stands}
+use Rattle.reading_items.proofs.Singles.{fine-room, behind-set}
+use borrow.Author.Needs.{needs}
+use Rattle.reading_items.proofs.leaves.set_item.Statement.{statement}
+use Rattle.reading_items.proofs.leaves.set_item.Tie as tie
+use Rattle.reading_items.proofs.leaves.set_item.Reads as reads
+use Rattle.reading_items.proofs.leaves.set_item.Lts as lts
+use Rattle.reading_items.proofs.parts.quantified.Reads as quantified-reads
+use Rattle.table.proofs.put.Reads as put-reads
+
+-- src/leaves.rt:25:5
+put-requires : tie.Need-put-requires
+put-requires c κs = set-putting ((c .before .before .before) .pre .1) (fine-room ((c .before .before .before) .pre .0))
+
+-- src/leaves.rt:26:38
+add-quantified : tie.Need-add-quantified
+add-quantified c = search needs
+
+-- src/leaves.rt:26:5
+quantified-requires : tie.Need-quantified-requires
+quantified-requires c κs =
+    let p = (c .before .before .before .before .before .before .before) .pre in
+    let stands = set-stands (fine-room (p .0)) ((c .before .before .before .put) .ensures) in (
+      behind-set (p .0) ((c .before .before .before .put) .kept .0),
+      record {
+        before = take (recordWords * (c .before .before .before .before .before .before .before) .args .top)
+            ((c .before .before .before .before .before .before .before) .args .table .now);
+        node
+            = bset ((c .before .before .before .before .before .before .before) .args .set);
+        proper = p .1;
+        stands = stands;
+      },
+    )
+
+-- src/leaves.rt:21:1
+same-length : tie.Need-same-length
+same-length c = search needs
+
+-- src/leaves.rt:21:1
+returns : tie.Need-returns
+returns c =
+    let p = (c .before .before .before .before .before .before .before .before .before .before) .pre in
+    (c .before .before .quantified) .ensures .by
+    (take (recordWords * (c .before .before .before .before .before .before .before .before .before .before) .args .top)
+    ((c .before .before .before .before .before .before .before .before .before .before) .args .table .now))
+    (bset ((c .before .before .before .before .before .before .before .before .before .before) .args .set)) (p .1)
+    (set-stands (fine-room (p .0)) ((c .before .before .before .before .before .before .put) .ensures))
+
+pub set-item-spec : {M : Type 1} → statement M
+set-item-spec =
+    tie.close (tie.spec put-requires add-quantified quantified-requires same-length returns)

@@ -1,0 +1,79 @@
+use Rattle.tidying_fitting.proofs.Passed.{first-asked, first-differs, second-differs, sets-told}
+use borrow.Author.Needs.{needs}
+use Rattle.tidying_fitting.proofs.series.begins_alike.Statement.{statement}
+use Rattle.tidying_fitting.proofs.series.begins_alike.Tie as tie
+use Rattle.tidying_fitting.proofs.series.begins_alike.Reads as reads
+use Rattle.tidying_fitting.proofs.series.begins_alike.Lts as lts
+use Rattle.tidying_fitting.proofs.last_words.Reads as last-words-reads
+use Rattle.tidying_fitting.proofs.own.Reads as own-reads
+use Rattle.tidying_fitting.proofs.series.first_item.Reads as first-item-reads
+use Rattle.sets.proofs.same.Reads as same-reads
+
+-- src/series.rt:57:9
+first-item-requires : tie.Need-first-item-requires
+first-item-requires c κs = search needs
+
+-- src/series.rt:58:9
+first-item-requires-2 : tie.Need-first-item-requires-2
+first-item-requires-2 c κs = search needs
+
+-- src/series.rt:59:9
+own-requires : tie.Need-own-requires
+own-requires c κs = first-asked ((c .before .first-item) .ensures) ((c .first-item2) .ensures)
+    ((c .before .before .before) .pre .0)
+
+-- src/series.rt:61:9
+returns : tie.Need-returns
+returns c = first-differs ((c .before .before .before .before .first-item) .ensures)
+    ((c .before .before .before .first-item2) .ensures) ((c .before .before .own) .ensures) ((c .if1) .taken)
+
+-- src/series.rt:63:9
+own-requires-2 : tie.Need-own-requires-2
+own-requires-2 c κs = first-asked ((c .before .before .before .first-item2) .ensures)
+    ((c .before .before .before .before .first-item) .ensures) ((c .before .before .before .before .before .before) .pre .1)
+
+-- src/series.rt:65:9
+returns-2 : tie.Need-returns-2
+returns-2 c = second-differs ((c .before .before .before .before .before .before .before .first-item) .ensures)
+    ((c .before .before .before .before .before .before .first-item2) .ensures) ((c .before .before .own2) .ensures)
+    ((c .if2) .taken)
+
+-- src/series.rt:67:16
+last-words-requires : tie.Need-last-words-requires
+last-words-requires c κs = first-asked ((c .before .before .before .before .before .before .before .first-item) .ensures)
+    ((c .before .before .before .before .before .before .first-item2) .ensures)
+    ((c .before .before .before .before .before .before .before .before .before) .pre .0)
+
+-- src/series.rt:67:38
+last-words-requires-2 : tie.Need-last-words-requires-2
+last-words-requires-2 c κs = first-asked ((c .before .before .before .before .before .before .before .first-item2) .ensures)
+    ((c .before .before .before .before .before .before .before .before .first-item) .ensures)
+    ((c .before .before .before .before .before .before .before .before .before .before) .pre .1)
+
+-- src/series.rt:67:5
+same-requires : tie.Need-same-requires
+same-requires c κs = search needs
+
+-- src/series.rt:53:1
+returns-3 : tie.Need-returns-3
+returns-3 c = sets-told ((c .before .before .before .before .before .before .before .before .before .before .first-item)
+    .ensures) ((c .before .before .before .before .before .before .before .before .before .first-item2) .ensures)
+    ((c .before .before .before .before .before .before .before .before .own) .ensures)
+    ((c .before .before .before .before .before .before .if1) .left)
+    ((c .before .before .before .before .before .own2) .ensures) ((c .before .before .before .if2) .left)
+    ((c .before .before .last-words) .ensures) ((c .before .last-words2) .ensures) ((c .same) .ensures)
+
+pub begins-alike-spec : {M : Type 1} → statement M
+begins-alike-spec =
+    tie.close
+    (tie.spec
+    first-item-requires
+    first-item-requires-2
+    own-requires
+    returns
+    own-requires-2
+    returns-2
+    last-words-requires
+    last-words-requires-2
+    same-requires
+    returns-3)

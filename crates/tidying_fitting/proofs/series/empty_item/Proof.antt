@@ -1,0 +1,17 @@
+-- T1 fits where a part of the row is the one that it looks for.
+use mathlib.Core.Path.{sym}
+use borrow.Author.Needs.{needs}
+use Rattle.tidying_fitting.specs.Fitting.{fits}
+use Rattle.tidying_fitting.specs.Marks.{hasMarked, t1-marked}
+use Rattle.tidying_fitting.specs.declared.Mark.the-variants.{Empty}
+use Rattle.tidying_fitting.proofs.Told.{by-test}
+use Rattle.tidying_fitting.proofs.series.empty_item.Statement.{statement}
+use Rattle.tidying_fitting.proofs.series.empty_item.Tie as tie
+
+returns : tie.Need-returns
+returns c = by-test (hasMarked 5 Empty) (fits 1) (λ r. sym (t1-marked r)) ((c .has-marked) .ensures)
+
+pub empty-item-spec : {M : Type 1} → statement M
+empty-item-spec =
+    tie.close
+    (tie.spec (λ c κs. search needs) returns)

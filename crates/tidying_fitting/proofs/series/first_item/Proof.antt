@@ -1,0 +1,75 @@
+use borrow.Author.Needs.{needs}
+use native.Mathlib.Omega.{arith}
+use Prim.Native.Nat.{ℕ, _+_, _-_, _*_, _≤_, _<_}
+use mathlib.Core.List.{List}
+use Rattle.meaning.specs.Node.{Node}
+use Rattle.tidying_fitting.specs.Parts.{Ends}
+use Rattle.tidying_fitting.proofs.Passed.{Passing, turn-part, first-alone, pass-first, pass-turn, pass-more, pass-last}
+use Rattle.tidying_fitting.proofs.Told.{asked}
+use Rattle.tidying_fitting.proofs.series.first_item.Statement.{statement}
+use Rattle.tidying_fitting.proofs.series.first_item.Tie as tie
+use Rattle.tidying_fitting.proofs.series.first_item.Reads as reads
+use Rattle.tidying_fitting.proofs.series.first_item.Lts as lts
+use Rattle.tidying_fitting.proofs.own.Reads as own-reads
+use Rattle.tidying_fitting.proofs.start.Reads as start-reads
+
+abbrev Inv-loop : tie.InvT-loop
+Inv-loop table top end₀ left₀ end left = (before : List ℕ) (r : Node) → Ends table top before r → Passing table top end left
+    before r
+
+abbrev μ-loop : tie.MeasureT-loop
+μ-loop table top end₀ left₀ end left = left
+
+-- src/series.rt:37:9
+own-requires : tie.Need-own-requires Inv-loop μ-loop
+own-requires c κs = search needs
+
+-- src/series.rt:39:9
+returns : tie.Need-returns Inv-loop μ-loop
+returns c = first-alone ((c .before .before .own) .ensures) ((c .if1) .taken)
+
+-- src/series.rt:41:19
+sub-end : tie.Need-sub-end Inv-loop μ-loop
+sub-end c = omega (arith, asked ((c .before .before .before .before) .pre))
+
+-- src/series.rt:43:5
+loop-holds : tie.Need-loop-holds Inv-loop μ-loop
+loop-holds c = λ before r p. pass-first p ((c .before .before .own) .ensures) ((c .if1) .left)
+
+-- src/series.rt:44:9
+start-requires : tie.Need-start-requires Inv-loop μ-loop
+start-requires c κs = let s = (c .before .before .before .before .before .before) .pre in turn-part
+    (pass-turn ((c .before .loop) .inv (s .before) (s .part) (s .ends)) ((c .loop-test) .taken))
+
+-- src/series.rt:45:9
+sub-left : tie.Need-sub-left Inv-loop μ-loop
+sub-left c = search needs
+
+-- src/series.rt:43:5
+loop-less : tie.Need-loop-less Inv-loop μ-loop
+loop-less c = search needs
+
+-- src/series.rt:43:5
+loop-again : tie.Need-loop-again Inv-loop μ-loop
+loop-again c = λ before r p. pass-more ((c .before .before .loop) .inv before r p) ((c .before .loop-test) .taken)
+    ((c .start) .ensures)
+
+-- src/series.rt:33:1
+returns-2 : tie.Need-returns-2 Inv-loop μ-loop
+returns-2 c = record { by = λ before r p. pass-last ((c .before .loop) .inv before r p) ((c .loop-test) .left) }
+
+pub first-item-spec : {M : Type 1} → statement M
+first-item-spec =
+    tie.close
+    (tie.spec
+    Inv-loop
+    μ-loop
+    own-requires
+    returns
+    sub-end
+    loop-holds
+    start-requires
+    sub-left
+    loop-less
+    loop-again
+    returns-2)

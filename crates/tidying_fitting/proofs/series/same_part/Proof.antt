@@ -1,0 +1,91 @@
+use native.Mathlib.Omega.{arith}
+use Prim.Native.Nat.{ℕ, _+_, _-_, _*_, _≤_, _<_}
+use Rattle.tidying_fitting.proofs.Blocks.{starts, counts-differ, words-compare}
+use borrow.Author.Needs.{needs}
+use Rattle.tidying_fitting.proofs.series.same_part.Statement.{statement}
+use Rattle.tidying_fitting.proofs.series.same_part.Tie as tie
+use Rattle.tidying_fitting.proofs.series.same_part.Reads as reads
+use Rattle.tidying_fitting.proofs.series.same_part.Lts as lts
+use Rattle.tidying_fitting.proofs.series.same_words.Reads as same-words-reads
+use Rattle.tidying_fitting.proofs.start.Reads as start-reads
+
+-- src/series.rt:101:9
+start-requires : tie.Need-start-requires
+start-requires c κs = search needs
+
+-- src/series.rt:102:9
+start-requires-2 : tie.Need-start-requires-2
+start-requires-2 c κs = search needs
+
+-- src/series.rt:103:19
+sub-records : tie.Need-sub-records
+sub-records c = starts ((c .before .before .before) .pre .0) ((c .before .start) .ensures) .few
+
+-- src/series.rt:104:8
+sub-if1 : tie.Need-sub-if1
+sub-if1 c = starts ((c .before .before .before) .pre .1) ((c .start2) .ensures) .few
+
+-- src/series.rt:105:9
+returns : tie.Need-returns
+returns c = counts-differ ((c .before .before .start) .ensures) ((c .before .start2) .ensures) ((c .if1) .taken)
+
+-- src/series.rt:107:23
+mul-same-words : tie.Need-mul-same-words
+mul-same-words c = omega (
+  arith,
+  starts ((c .before .before .before .before) .pre .0) ((c .before .before .start) .ensures)
+      .few,
+  starts ((c .before .before .before .before) .pre .0) ((c .before .before .start) .ensures) .room,
+)
+
+-- src/series.rt:107:34
+mul-same-words-2 : tie.Need-mul-same-words-2
+mul-same-words-2 c = omega (
+  arith,
+  starts ((c .before .before .before .before) .pre .1) ((c .before .start2) .ensures) .few,
+  starts ((c .before .before .before .before) .pre .1) ((c .before .start2) .ensures) .room,
+)
+
+-- src/series.rt:107:45
+mul-same-words-3 : tie.Need-mul-same-words-3
+mul-same-words-3 c = omega (
+  arith,
+  starts ((c .before .before .before .before) .pre .0) ((c .before .before .start) .ensures)
+      .few,
+  starts ((c .before .before .before .before) .pre .0) ((c .before .before .start) .ensures) .room,
+)
+
+-- src/series.rt:107:5
+same-words-requires : tie.Need-same-words-requires
+same-words-requires c κs = omega (
+  arith,
+  starts ((c .before .before .before .before) .pre .0)
+      ((c .before .before .start) .ensures) .few,
+  starts ((c .before .before .before .before) .pre .0)
+      ((c .before .before .start) .ensures) .room,
+  starts ((c .before .before .before .before) .pre .1)
+      ((c .before .start2) .ensures) .few,
+  starts ((c .before .before .before .before) .pre .1)
+      ((c .before .start2) .ensures) .room,
+  (c .if1) .left,
+)
+
+-- src/series.rt:97:1
+returns-2 : tie.Need-returns-2
+returns-2 c = words-compare ((c .before .before .before .start) .ensures) ((c .before .before .start2) .ensures)
+    ((c .before .if1) .left) ((c .same-words) .ensures)
+
+pub same-part-spec : {M : Type 1} → statement M
+same-part-spec =
+    tie.close
+    (tie.spec
+    start-requires
+    start-requires-2
+    sub-records
+    sub-if1
+    returns
+    mul-same-words
+    mul-same-words-2
+    mul-same-words-3
+    same-words-requires
+    returns-2)

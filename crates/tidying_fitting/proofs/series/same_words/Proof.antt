@@ -1,0 +1,92 @@
+use borrow.Author.Needs.{needs}
+use mathlib.Core.Path.{_≡_, refl, sym, ap, _∙_}
+use native.Mathlib.Omega.{arith}
+use Prim.Native.Nat.{ℕ, _+_, _-_, _*_, _≤_, _<_}
+use mathlib.Core.Bool.{true, false, false≢true, true≢false}
+use lib.ListN.{length, getD}
+use borrow.Author.Count.{below-none, below-more}
+use Rattle.tidying_fitting.proofs.series.same_words.Statement.{statement}
+use Rattle.tidying_fitting.proofs.series.same_words.Tie as tie
+use Rattle.tidying_fitting.proofs.series.same_words.Reads as reads
+use Rattle.tidying_fitting.proofs.series.same_words.Lts as lts
+
+abbrev Inv-loop : tie.InvT-loop
+Inv-loop table one other words k₀ k = (k ≤ words) × ((i : ℕ) → i < k → getD table (one + i) 0 ≡ getD table (other + i) 0)
+
+abbrev μ-loop : tie.MeasureT-loop
+μ-loop table one other words k₀ k = words - k
+
+-- src/series.rt:87:5
+loop-holds : tie.Need-loop-holds Inv-loop μ-loop
+loop-holds c = (omega arith, below-none _)
+
+-- src/series.rt:88:18
+add-if1 : tie.Need-add-if1 Inv-loop μ-loop
+add-if1 c = search needs
+
+-- src/series.rt:88:12
+mul-if1 : tie.Need-mul-if1 Inv-loop μ-loop
+mul-if1 c = search needs
+
+-- src/series.rt:88:12
+shared-slice-read-if1 : tie.Need-shared-slice-read-if1 Inv-loop μ-loop
+shared-slice-read-if1 c = search needs
+
+-- src/series.rt:88:36
+add-if1-2 : tie.Need-add-if1-2 Inv-loop μ-loop
+add-if1-2 c = search needs
+
+-- src/series.rt:88:30
+mul-if1-2 : tie.Need-mul-if1-2 Inv-loop μ-loop
+mul-if1-2 c = search needs
+
+-- src/series.rt:88:30
+shared-slice-read-if1-2 : tie.Need-shared-slice-read-if1-2 Inv-loop μ-loop
+shared-slice-read-if1-2 c = search needs
+
+-- src/series.rt:89:13
+returns : tie.Need-returns Inv-loop μ-loop
+returns c = record {
+  yes = λ e. absurd (false≢true e);
+  no = λ e same. (c .if1) .taken
+      (same ((c .before .before .before .before .loop) .k) ((c .before .before .before .loop-test) .taken));
+}
+
+-- src/series.rt:91:9
+add-k : tie.Need-add-k Inv-loop μ-loop
+add-k c = search needs
+
+-- src/series.rt:87:5
+loop-less : tie.Need-loop-less Inv-loop μ-loop
+loop-less c = search needs
+
+-- src/series.rt:87:5
+loop-again : tie.Need-loop-again Inv-loop μ-loop
+loop-again c = (search needs, below-more _ _ ((c .before .before .before .before .loop) .inv .1) ((c .if1) .left))
+
+-- src/series.rt:82:1
+returns-2 : tie.Need-returns-2 Inv-loop μ-loop
+returns-2 c = record {
+  yes = λ e i h. (c .before .loop) .inv .1 i (omega (arith, (c .loop-test) .left));
+  no = λ e. absurd
+      (true≢false e);
+}
+
+pub same-words-spec : {M : Type 1} → statement M
+same-words-spec =
+    tie.close
+    (tie.spec
+    Inv-loop
+    μ-loop
+    loop-holds
+    add-if1
+    mul-if1
+    shared-slice-read-if1
+    add-if1-2
+    mul-if1-2
+    shared-slice-read-if1-2
+    returns
+    add-k
+    loop-less
+    loop-again
+    returns-2)

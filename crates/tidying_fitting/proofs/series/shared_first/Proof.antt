@@ -1,0 +1,17 @@
+-- T8 fits where a part of the row is the one that it looks for.
+use mathlib.Core.Path.{sym}
+use borrow.Author.Needs.{needs}
+use Rattle.tidying_fitting.specs.Fitting.{fits}
+use Rattle.tidying_fitting.specs.Marks.{hasMarked, t8-marked}
+use Rattle.tidying_fitting.specs.declared.Mark.the-variants.{Alike}
+use Rattle.tidying_fitting.proofs.Told.{by-test}
+use Rattle.tidying_fitting.proofs.series.shared_first.Statement.{statement}
+use Rattle.tidying_fitting.proofs.series.shared_first.Tie as tie
+
+returns : tie.Need-returns
+returns c = by-test (hasMarked 6 Alike) (fits 8) (λ r. sym (t8-marked r)) ((c .has-marked) .ensures)
+
+pub shared-first-spec : {M : Type 1} → statement M
+shared-first-spec =
+    tie.close
+    (tie.spec (λ c κs. search needs) returns)

@@ -1,0 +1,30 @@
+use mathlib.Core.Path.{_≡_, refl, sym, ap, _∙_}
+use Rattle.tidying_fitting.proofs.Told.{few-told}
+use native.Mathlib.Omega.{arith}
+use Prim.Native.Nat.{ℕ, _+_, _-_, _*_, _≤_, _<_}
+use Rattle.tidying_fitting.proofs.Told.{start-told}
+use borrow.Author.Needs.{needs}
+use Rattle.tidying_fitting.proofs.start.Statement.{statement}
+use Rattle.tidying_fitting.proofs.start.Tie as tie
+use Rattle.tidying_fitting.proofs.start.Reads as reads
+use Rattle.tidying_fitting.proofs.start.Lts as lts
+use Rattle.tidying_fitting.proofs.own.Reads as own-reads
+
+-- src/lib.rt:61:9
+own-requires : tie.Need-own-requires
+own-requires c κs = search needs
+
+-- src/lib.rt:62:11
+cast-result : tie.Need-cast-result
+cast-result c = search needs
+
+-- src/lib.rt:62:5
+sub-result : tie.Need-sub-result
+sub-result c = few-told ((c .before .own) .ensures) ((c .before .before .before) .pre)
+
+-- src/lib.rt:57:1
+returns : tie.Need-returns
+returns c = start-told ((c .before .own) .ensures) refl
+
+pub start-spec : {M : Type 1} → statement M
+start-spec = tie.close (tie.spec own-requires cast-result sub-result returns)

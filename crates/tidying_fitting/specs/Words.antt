@@ -1,0 +1,270 @@
+-- T2 to T5 and T9 by the words of a quantifier's own record, and of its part's.
+use mathlib.Core.Path.{_≡_, refl, sym, ap, _∙_}
+use mathlib.Core.Bool.{Bool, true, false, cond, not, _&&_, _||_, Bool·beq, false≢true}
+use mathlib.Core.Option.{Option, none, some}
+use mathlib.Core.List.{List, [], _∷_}
+use Prim.Native.Nat.{ℕ, zero, suc, _+_, _-_, _≤_, _<_, max}
+use native.Mathlib.Omega.{arith}
+use native.Mathlib.Decide.{ℕ-discrete}
+use lib.ListN.{length, getD}
+use lib.Dec.{eqb, leb}
+use borrow.Author.Tests.{eq-eqb, ne-eqb, eqb-true, eqb-false, le-leb, lt-leb}
+use Rattle.meaning.specs.Node.{Node, Node.empty, Node.bset, Node.assert, Node.group, Node.seq, Node.alt, Node.many, hi}
+use Rattle.meaning.specs.Results.{orElse}
+use Rattle.table.specs.Table.{recordCount, noMaximum, maximum, bitOf}
+use Rattle.table.specs.Laws.{inner, kindOf, lastOf}
+use Rattle.table.specs.Derived.{Limited}
+use Rattle.tidying_laws.specs.Groups.{groups, Positive, positive-both, groupFree, free-groups, same-high}
+use Rattle.tidying_laws.specs.Equal.{same, same-eq, same-refl}
+use Rattle.tidying_laws.specs.Quantified.{absorbed}
+use Rattle.tidying_laws.specs.Laws.{when, sameMore, counts, isEmpty, onAssert, onMany, laws, t1, t2, t3, t4, t5, t6, t7, t8, t9}
+use Rattle.tidying_fitting.specs.Fitting.{isSome, lawOf, fits}
+use Rattle.tidying_fitting.specs.Parts.{Sound}
+use Rattle.tidying_fitting.specs.declared.Record.{Record}
+
+-- What a part's own record says.
+abbrev pub ownOf : Node → Record
+ownOf r = record {
+  kind = kindOf r;
+  records = recordCount r;
+  items = length (inner r);
+  highest = hi r;
+  least = getD (lastOf r) 0 0;
+  most = getD (lastOf r) 1 0;
+  lazy = getD (lastOf r) 2 0;
+}
+
+-- The record number at which a part starts that ends at `top`.
+abbrev pub startOf : ℕ → Node → ℕ
+startOf top r = top - recordCount r
+
+-- Tests that pass for the same parts are the same.
+pub same-test : (a b : Bool) → (a ≡ true → b ≡ true) → (b ≡ true → a ≡ true) → a ≡ b
+same-test true b f g = sym (f refl)
+same-test false true f g = g refl
+same-test false false f g = refl
+
+and-false : (b : Bool) → (b && false) ≡ false
+and-false true = refl
+and-false false = refl
+
+-- A part has no group exactly if its highest group is 0, as groups are numbered from 1.
+no-groups : (r : Node) → Positive (groups r) → hi r ≡ 0 → groups r ≡ []
+unfolding groups hi
+no-groups empty p h = refl
+no-groups (bset s) p h = refl
+no-groups (assert a) p h = refl
+no-groups (group k r) p h = absurd (omega (arith, p .0))
+no-groups (seq r q) p h =
+    rw (
+      no-groups r (positive-both (groups r) (groups q) p .0) (omega arith),
+      no-groups q
+          (positive-both (groups r) (groups q) p .1) (omega arith),
+    )
+no-groups (alt r q) p h =
+    rw (
+      no-groups r (positive-both (groups r) (groups q) p .0) (omega arith),
+      no-groups q
+          (positive-both (groups r) (groups q) p .1) (omega arith),
+    )
+no-groups (many n e lazy r) p h = no-groups r p h
+
+pub free-highest : (r : Node) → Positive (groups r) → groupFree r ≡ eqb (hi r) 0
+unfolding groupFree groups hi
+free-highest r p = same-test (groupFree r) (eqb (hi r) 0)
+    (λ t. eq-eqb (hi r) 0 (same-high r empty (free-groups r t)))
+    (λ t. rw (no-groups r p (eqb-true (hi r) 0 t)))
+
+-- A law fits where its test passes.
+pub when-some : {A : Type 0} (b : Bool) (a : A) → isSome (when b a) ≡ b
+when-some true a = refl
+when-some false a = refl
+
+-- A test of a quantifier and its part; any other part fails it.
+abbrev pub onPart : (Node → Node → Bool) → Node → Bool
+onPart f empty = false
+onPart f (bset s) = false
+onPart f (assert a) = false
+onPart f (group k r) = false
+onPart f (seq r q) = false
+onPart f (alt r q) = false
+onPart f (many n e lazy r) = f (many n e lazy r) r
+
+-- Whether a part is a quantifier over a part of a kind.
+abbrev pub isOver : ℕ → Node → Bool
+isOver k = onPart (λ r q. eqb (kindOf q) k)
+
+-- Whether a record is that of a quantifier of 0 to `most`.
+abbrev pub ranged : Record → ℕ → Bool
+ranged part most = eqb (part .kind) 7 && (eqb (part .least) 0 && eqb (part .most) most)
+
+-- Whether a part is a quantifier of 0 to `most` over another such one, with no group.
+abbrev pub nestedIn : ℕ → Record → Record → Bool
+nestedIn most outer inner = ranged outer most && (ranged inner most && eqb (outer .highest) 0)
+
+abbrev pub isNested : ℕ → Node → Bool
+isNested most = onPart (λ r q. nestedIn most (ownOf r) (ownOf q))
+
+-- T2: the counts are the same, and at most 1.
+abbrev pub onceOrNever : Record → Bool
+onceOrNever part = eqb (part .kind) 7 && (eqb (part .least) (part .most) && (leb (part .least) 1 && eqb (part .highest) 0))
+
+once : (n : ℕ) (e : Option ℕ) (b : Bool) (q : Node) → Limited (many n e false q)
+    → isSome (orElse (when (counts n e 1 (some 0) && b) q) (when (counts n e 0 (some 0) && b) empty))
+    ≡ (eqb n (maximum n e) && (leb n 1 && b))
+once n none b q h =
+    let one : counts n none 1 (some 0) ≡ false = and-false (eqb n 1) in
+    let zero : counts n none 0 (some 0) ≡ false = and-false (eqb n 0) in
+    rw (ne-eqb n noMaximum (λ e. omega arith), one, zero)
+once n (some (suc f)) b q h =
+    let more : eqb (suc f) 0 ≡ false = ne-eqb (suc f) 0 (λ e. omega arith) in
+    let one : counts n (some (suc f)) 1 (some 0) ≡ false = rw more (and-false (eqb n 1)) in
+    let zero : counts n (some (suc f)) 0 (some 0) ≡ false = rw more (and-false (eqb n 0)) in
+    rw (ne-eqb n (n + suc f) (λ e. omega arith), one, zero)
+once zero (some zero) b q h = when-some b empty
+once (suc zero) (some zero) true q h = refl
+once (suc zero) (some zero) false q h = refl
+once (suc (suc n)) (some zero) b q h =
+    let one : counts (suc (suc n)) (some 0) 1 (some 0) ≡ false = rw (ne-eqb (suc (suc n)) 1 (λ e. omega arith)) in
+    let zero : counts (suc (suc n)) (some 0) 0 (some 0) ≡ false = rw (ne-eqb (suc (suc n)) 0 (λ e. omega arith)) in
+    rw (one, zero, lt-leb (suc (suc n)) 1 (omega arith)) (sym (and-false (eqb (suc (suc n)) (suc (suc n) + 0))))
+
+pub t2-words : (r : Node) → Sound r → onceOrNever (ownOf r) ≡ fits 2 r
+unfolding fits lawOf laws t2 hi groups
+t2-words empty h = refl
+t2-words (bset s) h = refl
+t2-words (assert a) h = refl
+t2-words (group k r) h = refl
+t2-words (seq r q) h = refl
+t2-words (alt r q) h = refl
+t2-words (many n e lazy r) h = rw (← free-highest r (h .positive)) (sym (once n e (groupFree r) r (h .limited .0)))
+
+-- T3: only an empty part has kind 1.
+pub empty-kind : (r : Node) → isEmpty r ≡ eqb (kindOf r) 1
+empty-kind r = same-test (isEmpty r) (eqb (kindOf r) 1) (λ t. rw (same-eq r empty t)) (back r)
+  where
+    back : (r : Node) → eqb (kindOf r) 1 ≡ true → isEmpty r ≡ true
+    back empty t = same-refl empty
+    back (bset s) t = absurd (false≢true t)
+    back (assert a) t = absurd (false≢true t)
+    back (group k r) t = absurd (false≢true t)
+    back (seq r q) t = absurd (false≢true t)
+    back (alt r q) t = absurd (false≢true t)
+    back (many n e lazy r) t = absurd (false≢true t)
+
+pub t3-over : (r : Node) → fits 3 r ≡ isOver 1 r
+unfolding fits lawOf laws t3
+t3-over empty = refl
+t3-over (bset s) = refl
+t3-over (assert a) = refl
+t3-over (group k r) = refl
+t3-over (seq r q) = refl
+t3-over (alt r q) = refl
+t3-over (many n e lazy r) = when-some (isEmpty r) empty ∙ empty-kind r
+
+-- T4: only an assertion has kind 3.
+pub t4-over : (r : Node) → fits 4 r ≡ isOver 3 r
+unfolding fits lawOf laws t4
+t4-over empty = refl
+t4-over (bset s) = refl
+t4-over (assert a) = refl
+t4-over (group k r) = refl
+t4-over (seq r q) = refl
+t4-over (alt r q) = refl
+t4-over (many n e lazy r) = by r
+  where
+    by : (r : Node) → isSome (onAssert (λ a. some (cond (eqb n 0) empty (assert a))) r) ≡ eqb (kindOf r) 3
+    by empty = refl
+    by (bset s) = refl
+    by (assert a) = refl
+    by (group k r) = refl
+    by (seq r q) = refl
+    by (alt r q) = refl
+    by (many n e lazy r) = refl
+
+-- The counts of a quantifier, as words.
+none-more : (n : ℕ) (e : Option ℕ) (lazy : Bool) (q : Node) → Limited (many n e lazy q)
+    → counts n e 0 none ≡ ranged (ownOf (many n e lazy q)) noMaximum
+none-more n none lazy q h = refl
+none-more n (some e) lazy q h = rw (ne-eqb (n + e) noMaximum (λ e. omega arith))
+
+one-more : (n : ℕ) (e : Option ℕ) (lazy : Bool) (q : Node) → Limited (many n e lazy q)
+    → counts n e 0 (some 1) ≡ ranged (ownOf (many n e lazy q)) 1
+one-more n none lazy q h = refl
+one-more zero (some e) lazy q h = let same : 0 + e ≡ e = omega arith in rw same
+one-more (suc n) (some e) lazy q h = rw (ne-eqb (suc n) 0 (λ e. omega arith))
+
+-- The laziness of a quantifier, as a word.
+absorbed-word : (inner outer : Bool) → absorbed inner outer ≡ leb (bitOf outer) (bitOf inner)
+absorbed-word false false = refl
+absorbed-word false true = refl
+absorbed-word true false = refl
+absorbed-word true true = refl
+
+same-word : (outer inner : Bool) → Bool·beq outer inner ≡ eqb (bitOf outer) (bitOf inner)
+same-word false false = refl
+same-word false true = refl
+same-word true false = refl
+same-word true true = refl
+
+-- T5 and T9: such a quantifier over another, by what the two laws ask of the laziness.
+abbrev pub lazyWords : (ℕ → ℕ → Bool) → Node → Bool
+lazyWords f = onPart (λ r q. f (ownOf r .lazy) (ownOf q .lazy))
+
+shuffle : (a b c d : Bool) → ((a && b) && c && d) ≡ ((a && (b && d)) && c)
+shuffle true true true true = refl
+shuffle true true true false = refl
+shuffle true true false true = refl
+shuffle true true false false = refl
+shuffle true false c d = refl
+shuffle false b c d = refl
+
+-- Where a quantifier's part is no quantifier, it is not nested.
+unnested : (most : ℕ) (o : Record) (q : Node) (b : Bool) → (kindOf q ≡ 7 → ⊥) → false ≡ (nestedIn most o (ownOf q) && b)
+unnested most o q b h = rw (ne-eqb (kindOf q) 7 h, and-false (ranged o most))
+
+module _ (more : Option ℕ) (most : ℕ) (lazyTest : Bool → Bool → Bool) (wordTest : ℕ → ℕ → Bool)
+    (counted : (n : ℕ) (e : Option ℕ) (lazy : Bool) (q : Node) → Limited (many n e lazy q) → counts n e 0 more ≡ ranged
+    (ownOf (many n e lazy q)) most)
+    (asWords : (inner outer : Bool) → lazyTest inner outer ≡ wordTest (bitOf outer) (bitOf inner)) where
+  nested-words : (n : ℕ) (e : Option ℕ) (lazy : Bool) (q : Node) → Sound (many n e lazy q)
+      → isSome (onMany (λ m f inner r. when (counts n e 0 more && counts m f 0 more && lazyTest inner lazy && groupFree r)
+      (many 0 more lazy r)) q)
+      ≡ (isNested most (many n e lazy q) && lazyWords wordTest (many n e lazy q))
+  unfolding hi groups
+  nested-words n e lazy (many m f inner q) h =
+      when-some (counts n e 0 more && counts m f 0 more && lazyTest inner lazy && groupFree q) (many 0 more lazy q)
+      ∙ rw (
+        counted n e lazy (many m f inner q) (h .limited .0),
+        counted m f inner q (h .limited .1 .0),
+        asWords inner lazy,
+        free-highest q (h .positive),
+      ) (shuffle (ranged (ownOf (many n e lazy (many m f inner q))) most) (ranged (ownOf (many m f inner q)) most)
+      (wordTest (bitOf lazy) (bitOf inner)) (eqb (hi q) 0))
+  nested-words n e lazy empty h = unnested most (ownOf (many n e lazy empty)) empty _ (λ e. omega arith)
+  nested-words n e lazy (bset s) h = unnested most (ownOf (many n e lazy (bset s))) (bset s) _ (λ e. omega arith)
+  nested-words n e lazy (assert a) h = unnested most (ownOf (many n e lazy (assert a))) (assert a) _ (λ e. omega arith)
+  nested-words n e lazy (group k r) h = unnested most (ownOf (many n e lazy (group k r))) (group k r) _ (λ e. omega arith)
+  nested-words n e lazy (seq r q) h = unnested most (ownOf (many n e lazy (seq r q))) (seq r q) _ (λ e. omega arith)
+  nested-words n e lazy (alt r q) h = unnested most (ownOf (many n e lazy (alt r q))) (alt r q) _ (λ e. omega arith)
+
+pub t5-words : (r : Node) → Sound r → fits 5 r ≡ (isNested noMaximum r && lazyWords leb r)
+unfolding fits lawOf laws t5
+t5-words empty h = refl
+t5-words (bset s) h = refl
+t5-words (assert a) h = refl
+t5-words (group k r) h = refl
+t5-words (seq r q) h = refl
+t5-words (alt r q) h = refl
+t5-words (many n e lazy q) h = nested-words none noMaximum absorbed leb none-more absorbed-word n e lazy q h
+
+pub t9-words : (r : Node) → Sound r → fits 9 r ≡ (isNested 1 r && lazyWords eqb r)
+unfolding fits lawOf laws t9
+t9-words empty h = refl
+t9-words (bset s) h = refl
+t9-words (assert a) h = refl
+t9-words (group k r) h = refl
+t9-words (seq r q) h = refl
+t9-words (alt r q) h = refl
+t9-words (many n e lazy q) h = nested-words (some 1) 1 (λ inner outer. Bool·beq outer inner) eqb one-more
+    (λ inner outer. same-word outer inner) n e lazy q h

@@ -1,0 +1,96 @@
+// Whether a law of the tidier fits a part of a pattern that stands as records in a table (docs/TABLE.md). A part's own record
+// stands right below the record number at which its records end, `top`, on the parts inside it.
+use table::word;
+
+mod quantifiers; // quantifiers.rt: T2 to T5 and T9, laws for a quantifier
+pub mod series; // series.rt: T1 and T6 to T8, laws for the items of a sequence and the alternatives of an alternation
+
+ghost use Rattle.table.specs.Laws.{lastOf};
+ghost use Rattle.tidying_fitting.specs.Fitting.{fits};
+ghost use Rattle.tidying_fitting.specs.Parts.{SomePart, Tells};
+ghost use Rattle.tidying_fitting.specs.Words.{ownOf, startOf};
+
+// How many laws there are.
+pub const LAWS: u32 = 9;
+
+// What a part's own record says: its kind, how many records and items it has, its highest group, and a quantifier's
+// counts and laziness.
+pub struct Record {
+    pub kind: u32,
+    pub records: u32,
+    pub items: u32,
+    pub highest: u32,
+    pub least: u32,
+    pub most: u32,
+    pub lazy: u32,
+}
+
+// What a law looks for among the parts of a row: T1 an empty item, T6 an alternative without groups that equals an earlier one,
+// T7 a set with no byte, T8 an alternative whose first item is the byte set that its left neighbour begins with.
+pub enum Mark {
+    Empty,
+    Equal,
+    Void,
+    Alike,
+}
+
+// What the own record of the part that ends at `top` says.
+pub fn own(table: &[u32], top: usize) -> Record
+    requires { ⌜ SomePart (now table) top ⌝ }
+    ensures { λ r. ⌜ Tells r (now (table .entry)) top ownOf ⌝ }
+{
+    Record {
+        kind: word(table, top, 0),
+        records: word(table, top, 2),
+        items: word(table, top, 3),
+        highest: word(table, top, 6),
+        least: word(table, top, 8),
+        most: word(table, top, 9),
+        lazy: word(table, top, 10),
+    }
+}
+
+// The record number at which the part that ends at `top` starts: there the part before it in a row ends.
+pub fn start(table: &[u32], top: usize) -> usize
+    requires { ⌜ SomePart (now table) top ⌝ }
+    ensures { λ r. ⌜ Tells r (now (table .entry)) top (startOf top) ⌝ }
+{
+    let part = own(table, top);
+    top - part.records as usize
+}
+
+// The last eight words of its own record.
+pub fn last_words(table: &[u32], top: usize) -> [u32; 8]
+    requires { ⌜ SomePart (now table) top ⌝ }
+    ensures { λ r. ⌜ Tells r (now (table .entry)) top lastOf ⌝ }
+{
+    [
+        word(table, top, 8),
+        word(table, top, 9),
+        word(table, top, 10),
+        word(table, top, 11),
+        word(table, top, 12),
+        word(table, top, 13),
+        word(table, top, 14),
+        word(table, top, 15),
+    ]
+}
+
+// Whether a law fits the part that ends at `top`. No law has another number.
+pub fn fits(table: &[u32], top: usize, law: u32) -> bool
+    requires { ⌜ SomePart (now table) top ⌝ }
+    ensures { λ r. ⌜ Tells r (now (table .entry)) top (fits law) ⌝ }
+{
+    match law {
+        1 => series::empty_item(table, top),
+        2 => quantifiers::once_or_never(table, top),
+        3 => quantifiers::quantified_empty(table, top),
+        4 => quantifiers::quantified_assertion(table, top),
+        5 => quantifiers::loop_of_loop(table, top),
+        6 => series::equal_alternative(table, top),
+        7 => series::void_part(table, top),
+        8 => series::shared_first(table, top),
+        9 => quantifiers::option_of_option(table, top),
+        _ => false,
+    }
+}

@@ -1,0 +1,113 @@
+// The laws for a quantifier: T2 to T5 and T9. Its part's own record stands right below its own.
+use super::Record;
+use super::own;
+use table::ASSERTION;
+use table::EMPTY;
+use table::NO_MAXIMUM;
+use table::QUANTIFIER;
+ghost use mathlib.Core.Path.{_≡_};
+ghost use Rattle.tidying_fitting.specs.Fitting.{fits};
+ghost use Rattle.tidying_fitting.specs.Parts.{SomePart, Tells};
+ghost use Rattle.tidying_fitting.specs.Words.{isOver, ranged, isNested};
+
+// T2: r{1} and r{0}, with no group.
+pub fn once_or_never(table: &[u32], top: usize) -> bool
+    requires { ⌜ SomePart (now table) top ⌝ }
+    ensures { λ r. ⌜ Tells r (now (table .entry)) top (fits 2) ⌝ }
+{
+    let part = own(table, top);
+    if part.kind != QUANTIFIER {
+        return false;
+    }
+    if part.least != part.most {
+        return false;
+    }
+    if 1 < part.least {
+        return false;
+    }
+    part.highest == 0
+}
+
+// Whether a part is a quantifier over a part of a kind.
+fn over(table: &[u32], top: usize, kind: u32) -> bool
+    requires { ⌜ SomePart (now table) top ⌝ }
+    ensures { λ r. ⌜ Tells r (now (table .entry)) top (isOver kind) ⌝ }
+{
+    let outer = own(table, top);
+    if outer.kind != QUANTIFIER {
+        return false;
+    }
+    let inner = own(table, top - 1);
+    inner.kind == kind
+}
+
+// T3: a quantified empty.
+pub fn quantified_empty(table: &[u32], top: usize) -> bool
+    requires { ⌜ SomePart (now table) top ⌝ }
+    ensures { λ r. ⌜ Tells r (now (table .entry)) top (fits 3) ⌝ }
+{
+    over(table, top, EMPTY)
+}
+
+// T4: a quantified assertion.
+pub fn quantified_assertion(table: &[u32], top: usize) -> bool
+    requires { ⌜ SomePart (now table) top ⌝ }
+    ensures { λ r. ⌜ Tells r (now (table .entry)) top (fits 4) ⌝ }
+{
+    over(table, top, ASSERTION)
+}
+
+// Whether a part is a quantifier of 0 to `most`.
+fn ranges(part: Record, most: u32) -> bool
+    ensures { λ r. ⌜ r ≡ ranged part most ⌝ }
+{
+    if part.kind != QUANTIFIER {
+        return false;
+    }
+    if part.least != 0 {
+        return false;
+    }
+    part.most == most
+}
+
+// Whether a part is a quantifier of 0 to `most` over another such one, with no group.
+fn nested(table: &[u32], top: usize, most: u32) -> bool
+    requires { ⌜ SomePart (now table) top ⌝ }
+    ensures { λ r. ⌜ Tells r (now (table .entry)) top (isNested most) ⌝ }
+{
+    let outer = own(table, top);
+    if !ranges(outer, most) {
+        return false;
+    }
+    let inner = own(table, top - 1);
+    if !ranges(inner, most) {
+        return false;
+    }
+    outer.highest == 0
+}
+
+// T5: (?:r*)*, (?:r*?)* and (?:r*?)*?. A lazy loop is one only over a lazy loop.
+pub fn loop_of_loop(table: &[u32], top: usize) -> bool
+    requires { ⌜ SomePart (now table) top ⌝ }
+    ensures { λ r. ⌜ Tells r (now (table .entry)) top (fits 5) ⌝ }
+{
+    if !nested(table, top, NO_MAXIMUM) {
+        return false;
+    }
+    let outer = own(table, top);
+    let inner = own(table, top - 1);
+    outer.lazy <= inner.lazy
+}
+
+// T9: (?:r?)? and (?:r??)??.
+pub fn option_of_option(table: &[u32], top: usize) -> bool
+    requires { ⌜ SomePart (now table) top ⌝ }
+    ensures { λ r. ⌜ Tells r (now (table .entry)) top (fits 9) ⌝ }
+{
+    if !nested(table, top, 1) {
+        return false;
+    }
+    let outer = own(table, top);
+    let inner = own(table, top - 1);
+    outer.lazy == inner.lazy
+}

@@ -1,0 +1,127 @@
+-- The search for a law: what its first place and lowest law are, when it finds none, and that places are records.
+use mathlib.Core.Path.{_≡_, refl, ap, _∙_}
+use mathlib.Core.Option.{Option, none, some, Option·map, map-eq-none-iff}
+use mathlib.Core.Option.{Option·none-ne-some, Option·some-ne-none, Option·some-injective}
+use mathlib.Core.List.{List, [], _∷_, _++_}
+use Prim.Native.Nat.{ℕ, suc, _+_}
+use native.Mathlib.Omega.{arith}
+use lib.ListN.{length, length-append, length-map}
+use Rattle.meaning.specs.Node.{Node, Node.empty, Node.bset, Node.assert, Node.group, Node.seq, Node.alt, Node.many}
+use Rattle.meaning.specs.Results.{orElse}
+use Rattle.meaning.specs.Flat.{Kind, Kind.sequence, Kind.alternation, Not, pair}
+use Rattle.tidying_laws.specs.Charge.{isPair, not-pair, records}
+use Rattle.tidying_laws.specs.Laws.{laws}
+use Rattle.tidying_laws.specs.Tidier.{whole, places, firstAt, lowest, found, tidyStep}
+use Rattle.tidying_laws.specs.Kept.{Each, each-imp}
+
+-- What stands at the number found, and that nothing before it succeeds.
+pub record First {A B : Type 0} (c : A → Option B) (n : ℕ) (l : List A) (i : ℕ) (b : B) : Type 0 where
+  pub front : List A
+  pub here : A
+  pub back : List A
+  pub split : l ≡ front ++ here ∷ back
+  pub number : n + length front ≡ i
+  pub none-before : Each (λ x. c x ≡ none) front
+  pub success : c here ≡ some b
+
+pub first-at : {A B : Type 0} (c : A → Option B) (n : ℕ) (l : List A) (i : ℕ) (b : B) → firstAt c n l ≡ some (i, b)
+    → First c n l i b
+first-at c n [] i b e = absurd (Option·none-ne-some (i, b) e)
+first-at {B = B} c n (x ∷ l) i b e = by (λ e. first-at c (suc n) l i b e) (c x) refl e
+  where
+    by : (firstAt c (suc n) l ≡ some (i, b) → First c (suc n) l i b)
+        → (o : Option B) → c x ≡ o → orElse (Option·map (λ b. (n, b)) o) (firstAt c (suc n) l) ≡ some (i, b)
+        → First c n (x ∷ l) i b
+    by ih none f e = let h : First c (suc n) l i b = ih e in record {
+      front = x ∷ h .front;
+      here = h .here;
+      back = h .back;
+      split = ap (λ m. x ∷ m) (h .split);
+      number = omega (arith, h .number);
+      none-before = (f, h .none-before);
+      success = h .success;
+    }
+    by ih (some d) f e =
+        let p : Path (ℕ × B) (n, d) (i, b) = Option·some-injective (n, d) (i, b) e in
+        let q : n ≡ i = ap (λ (t : ℕ × B). t .0) p in
+        record {
+          front = [];
+          here = x;
+          back = l;
+          split = refl;
+          number = omega arith;
+          none-before = tt;
+          success = f ∙ ap (λ (t : ℕ × B). some (t .1)) p;
+        }
+
+-- Where nothing before it succeeds, an element that does is the first.
+pub at-first : {A B : Type 0} (c : A → Option B) (n : ℕ) (l m : List A) (x : A) (b : B)
+    → Each (λ y. c y ≡ none) l → c x ≡ some b → firstAt c n (l ++ x ∷ m) ≡ some (n + length l, b)
+at-first c n [] m x b h e = rw e (ap (λ i. some (i, b)) (omega arith))
+at-first c n (y ∷ l) m x b h e = rw (h .0, at-first c (suc n) l m x b (h .1) e) (ap (λ i. some (i, b)) (omega arith))
+
+-- A search finds nothing exactly if nothing succeeds.
+first-none : {A B : Type 0} (c : A → Option B) (n : ℕ) (l : List A) → firstAt c n l ≡ none → Each (λ x. c x ≡ none) l
+first-none c n [] e = tt
+first-none {B = B} c n (x ∷ l) e = by (λ e. first-none c (suc n) l e) (c x) refl e
+  where
+    by : (firstAt c (suc n) l ≡ none → Each (λ x. c x ≡ none) l) → (o : Option B) → c x ≡ o
+        → orElse (Option·map (λ b. (n, b)) o) (firstAt c (suc n) l) ≡ none → (c x ≡ none) × Each (λ x. c x ≡ none) l
+    by ih none f e = (f, ih e)
+    by ih (some b) f e = absurd (Option·some-ne-none (n, b) e)
+
+none-first : {A B : Type 0} (c : A → Option B) (n : ℕ) (l : List A) → Each (λ x. c x ≡ none) l → firstAt c n l ≡ none
+none-first c n [] h = refl
+none-first c n (x ∷ l) h = rw (h .0) (none-first c (suc n) l (h .1))
+
+-- No law of the list fits any part of a pattern.
+abbrev pub Done : Node → Type 0
+Done r = Each (λ p. Each (λ f. f (p .part) ≡ none) laws) (places none r)
+
+-- The tidier's step finds nothing exactly if no law fits any part.
+pub done : (r : Node) → tidyStep r ≡ none → Done r
+unfolding tidyStep found lowest
+done r e = each-imp _ (λ p. Each (λ f. f (p .part) ≡ none) laws)
+    (λ p f. first-none (λ f. f (p .part)) 1 laws (map-eq-none-iff _ (lowest (p .part)) .0 f)) (places none r)
+    (first-none _ 0 (places none r) (map-eq-none-iff _ (found r) .0 e))
+
+pub undone : (r : Node) → Done r → tidyStep r ≡ none
+unfolding tidyStep found lowest
+undone r h = map-eq-none-iff _ (found r) .1 (none-first _ 0 (places none r)
+    (each-imp (λ p. Each (λ f. f (p .part) ≡ none) laws) _
+    (λ p f. map-eq-none-iff _ (lowest (p .part)) .1 (none-first (λ f. f (p .part)) 1 laws f)) (places none r) h))
+
+-- A pattern has as many places as records; its end, as a part of more, does not count.
+abbrev ending : Option Kind → Node → ℕ
+ending none r = 0
+ending (some k) r = isPair k r
+
+whole-one : (t : Option Kind) (k : Kind) (r q : Node) → length (whole t k (pair k r q)) + ending t (pair k r q) ≡ 1
+unfolding isPair
+whole-one none k r q = omega arith
+whole-one (some sequence) sequence r q = omega arith
+whole-one (some sequence) alternation r q = omega arith
+whole-one (some alternation) sequence r q = omega arith
+whole-one (some alternation) alternation r q = omega arith
+
+leaf : (t : Option Kind) (r : Node) → Not sequence r → Not alternation r → ending t r ≡ 0
+leaf none r h g = refl
+leaf (some sequence) r h g = not-pair sequence r h
+leaf (some alternation) r h g = not-pair alternation r g
+
+places-count : (t : Option Kind) (r : Node) → length (places t r) + ending t r ≡ records r
+unfolding places records
+places-count t empty = omega (arith, leaf t empty tt tt)
+places-count t (bset s) = omega (arith, leaf t (bset s) tt tt)
+places-count t (assert a) = omega (arith, leaf t (assert a) tt tt)
+places-count t (group k r) =
+    simp (length-append, length-map) (omega (arith, leaf t (group k r) tt tt, places-count none r))
+places-count t (seq r q) = simp (length-append, length-map)
+    (omega (arith, whole-one t sequence r q, places-count none r, places-count (some sequence) q))
+places-count t (alt r q) = simp (length-append, length-map)
+    (omega (arith, whole-one t alternation r q, places-count none r, places-count (some alternation) q))
+places-count t (many n e lazy r) =
+    simp (length-append, length-map) (omega (arith, leaf t (many n e lazy r) tt tt, places-count none r))
+
+pub places-records : (r : Node) → length (places none r) ≡ records r
+places-records r = omega (arith, places-count none r)

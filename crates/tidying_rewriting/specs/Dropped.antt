@@ -1,0 +1,239 @@
+-- T6 and T7 in a table: where the alternative that goes stands, and what is said without it.
+use mathlib.Core.Path.{_≡_, sym, ap, subst, _∙_}
+use mathlib.Core.List.{List, [], _∷_, _++_, append-assoc}
+use Prim.Native.Nat.{ℕ, _+_, _-_, _*_, _≤_, _<_}
+use native.Mathlib.Omega.{arith}
+use lib.ListN.{length, getD, length-append}
+use Rattle.meaning.specs.Node.{Node, Node.bset, Proper}
+use Rattle.meaning.specs.Flat.{Kind, Kind.alternation, Not}
+use Rattle.meaning.specs.Results.{concatMap}
+use Rattle.table.specs.Table.{recordWords, recordCount, records}
+use Rattle.table.specs.Laws.{Each, each-append, each-left, each-right, inner, kindOf, parts-flat}
+use Rattle.table.specs.Laws.{countAll, records-append, long-all}
+use Rattle.table.specs.Stands.{Stands}
+use Rattle.table.specs.Roots.{stands-under}
+use Rattle.tidying_laws.specs.Void.{void}
+use Rattle.tidying_laws.specs.Laws.{t7}
+use Rattle.tidying_fitting.specs.Parts.{Ends, Row, Sound, Tells, SomePart, inside}
+use Rattle.tidying_fitting.specs.Words.{startOf}
+use Rattle.tidying_fitting.specs.Places.{endOf}
+use Rattle.tidying_fitting.specs.Marks.{without, markedEnd}
+use Rattle.tidying_fitting.specs.declared.Mark.{Mark}
+use Rattle.tidying_fitting.specs.declared.Mark.the-variants.{Void}
+use Rattle.tidying_shapes.specs.Skeleton.{Token, token, rowToken, skeletonIn, skeleton}
+use Rattle.tidying_shapes.specs.Tokens.{Says}
+use Rattle.tidying_shapes.specs.Told.{skeleton-count}
+use Rattle.tidying_rewriting.specs.Rewriting.{Placed, Fitting, SomeFitting, Rewrites, Shrinks, ok-some, fitting-wide}
+use Rattle.tidying_rewriting.specs.Rewriting.{some-wide}
+use Rattle.tidying_rewriting.specs.Rewriting.{within, own-word}
+use Rattle.tidying_rewriting.specs.Own.{own-said, inside-here}
+use Rattle.tidying_rewriting.specs.Frames.{Cut}
+use Rattle.tidying_rewriting.specs.Rows.{skeletons-count, skeletons-append, Closes, Closing, joined}
+use Rattle.tidying_rewriting.specs.Dropping.{dropping, Drop, drop-of, void-alternation, void-sequence}
+
+pub each-proper : (l : List Node) → Each Sound l → Each Proper l
+each-proper [] h = tt
+each-proper (r ∷ l) h = (h .0 .proper, each-proper l (h .1))
+
+-- A part inside a part that is placed: where its records end.
+module _ {table : List ℕ} {n part : ℕ} {before : List ℕ} {x : Node} {l m : List Token}
+    (p : Placed table n part before x l m)
+    (front : List Node) (q : Node) (more : List Node) (split : inner x ≡ front ++ (q ∷ more)) where
+  row : Row table (part + 1 - 1) (length (front ++ (q ∷ more))) before (front ++ (q ∷ more))
+  row = rw split at (inside (p .ends))
+
+  sound : Each Sound (q ∷ more)
+  sound = each-right Sound front (q ∷ more) (row .sound)
+
+  pub inner-tokens : concatMap skeleton (inner x) ≡ concatMap skeleton front ++ (skeleton q ++ concatMap skeleton more)
+  inner-tokens = ap (concatMap skeleton) split ∙ skeletons-append front (q ∷ more)
+
+  pub front-count : length (concatMap skeleton front) ≡ countAll front
+  front-count = skeletons-count front (each-proper front (each-left Sound front (q ∷ more) (row .sound)))
+
+  pub part-count : length (skeleton q) ≡ recordCount q
+  part-count = skeleton-count q (sound .0 .proper)
+
+  -- Before it stand the tokens on the left and those of the parts in front.
+  pub part-end : length l + length (concatMap skeleton front) + recordCount q + length (concatMap skeleton more) ≡ part
+  part-end = omega (
+    arith,
+    inside-here p,
+    ap length inner-tokens,
+    length-append (concatMap skeleton front) (skeleton q ++ concatMap skeleton more),
+    length-append (skeleton q) (concatMap skeleton more),
+    part-count,
+  )
+
+  pub part-ends : Ends table (length l + length (concatMap skeleton front) + recordCount q)
+      (before ++ concatMap records front) q
+  part-ends = record { stands = subst (λ (i : ℕ). Stands table i (first ++ records q)) number under; sound = sound .0 }
+    where
+      first : List ℕ
+      first = before ++ concatMap records front
+
+      words : before ++ concatMap records (front ++ (q ∷ more)) ≡ (first ++ records q) ++ concatMap records more
+      words =
+          ap (λ x. before ++ x) (records-append front (q ∷ more))
+          ∙ sym (append-assoc before (concatMap records front) (records q ++ concatMap records more))
+          ∙ sym (append-assoc first (records q) (concatMap records more))
+
+      proper : Each Proper more
+      proper = each-proper more (sound .1)
+
+      number : part + 1 - 1 - countAll more ≡ length l + length (concatMap skeleton front) + recordCount q
+      number = omega (arith, part-end, skeletons-count more proper)
+
+      under : Stands table (part + 1 - 1 - countAll more) (first ++ records q)
+      under = stands-under (first ++ records q) (concatMap records more) (countAll more)
+          (rw words at (row .stands)) (long-all more proper)
+
+-- The numbers of records at which the alternative that goes ends and starts, and how many alternatives there are.
+pub record DropAt (mark : Mark) (n part : ℕ) (x y : Node) (l : List Token) (end from items : ℕ) : Type 0 where
+  pub drop : Drop mark x y
+  pub start : from ≡ length l + length (concatMap skeleton (drop .at .front))
+  pub gone : end - from ≡ recordCount (drop .at .part)
+  pub order : from ≤ end
+  pub few : end ≤ part
+  pub inside : part < n
+  pub all : items ≡ length (inner x)
+  pub some : 1 ≤ items
+
+module _ (mark : Mark) {table : List ℕ} {n part : ℕ} {before : List ℕ} {x y : Node} {l m : List Token}
+    (fit : Fitting (dropping mark) table n part before x y l m) where
+  drop : Drop mark x y
+  drop = drop-of mark x y (fit .fits)
+
+  abbrev ended : ℕ
+  ended = length l + length (concatMap skeleton (drop .at .front)) + recordCount (drop .at .part)
+
+  drop-end : {end : ℕ} → Tells end table (part + 1) (markedEnd mark (part + 1)) → end ≡ ended
+  drop-end t =
+      let told = t .by before x (fit .placed .ends) ∙ ap (endOf (part + 1 - recordCount x)) (drop .found) in
+      omega (
+        arith,
+        told,
+        fit .placed .here,
+        skeleton-count x (fit .placed .ends .sound .proper),
+        front-count (fit .placed) (drop .at .front) (drop .at .part) (drop .at .more) (drop .split),
+      )
+
+  drop-ends : {end : ℕ} → Tells end table (part + 1) (markedEnd mark (part + 1))
+      → Ends table end (before ++ concatMap records (drop .at .front)) (drop .at .part)
+  drop-ends t =
+      rw (drop-end t) (part-ends (fit .placed) (drop .at .front) (drop .at .part) (drop .at .more) (drop .split))
+
+  pub drop-there : {end : ℕ} → Tells end table (part + 1) (markedEnd mark (part + 1)) → SomePart table end
+  drop-there t =
+      record { before = before ++ concatMap records (drop .at .front); part = drop .at .part; ends = drop-ends t }
+
+  pub drop-at : {end from items : ℕ} → Tells end table (part + 1) (markedEnd mark (part + 1))
+      → Tells from table end (startOf end) → items ≡ getD table (recordWords * (part + 1 - 1) + 3) 0
+      → DropAt mark n part x y l end from items
+  drop-at {end} {from} {items} t s e =
+      let started : from ≡ end - recordCount (drop .at .part) = s .by _ _ (drop-ends t) in
+      let all : items ≡ length (inner x) = e ∙ own-word (fit .placed) 3 (omega arith) in
+      let stop : end ≡ ended = drop-end t in
+      let one = ap length (drop .split) in
+      record {
+        drop = drop;
+        start = omega arith;
+        gone = omega arith;
+        order = omega arith;
+        few = omega (arith, part-end (fit .placed) (drop .at .front) (drop .at .part) (drop .at .more) (drop .split));
+        inside = omega (arith, within (fit .placed));
+        all = all;
+        some = omega (arith, length-append (drop .at .front) (drop .at .part ∷ drop .at .more));
+      }
+
+-- Without it the others are left, and the row is closed over them.
+each-without : (k : Kind) (a : List Node) (q : Node) (b : List Node) → Each (Not k) (a ++ (q ∷ b)) → Each (Not k) (a ++ b)
+each-without k a q b h = each-append (Not k) a b (each-left (Not k) a (q ∷ b) h) (each-right (Not k) a (q ∷ b) h .1)
+
+module _ {mark : Mark} {table table′ : List ℕ} {n part n′ end from items : ℕ} {before : List ℕ} {x y : Node}
+    {l m : List Token} (fit : Fitting (dropping mark) table n part before x y l m)
+    (d : DropAt mark n part x y l end from items) (cut : Cut table table′ n from (end - from) n′) where
+  abbrev front : List Node
+  front = d .drop .at .front
+
+  abbrev gone : Node
+  gone = d .drop .at .part
+
+  abbrev more : List Node
+  more = d .drop .at .more
+
+  abbrev a : List Token
+  a = concatMap skeleton front
+
+  abbrev q : List Token
+  q = skeleton gone
+
+  abbrev b : List Token
+  b = concatMap skeleton more
+
+  numbers : (length q ≡ recordCount gone) × (length l + length a + length q + length b ≡ part)
+  numbers =
+      let count = part-count (fit .placed) front gone more (d .drop .split) in
+      (count, omega (arith, part-end (fit .placed) front gone more (d .drop .split)))
+
+  left-said : Says table′ n′
+      (l ++ (concatMap skeleton (without (d .drop .at)) ++ (rowToken alternation (length (inner x)) ∷ m)))
+  left-said =
+      let rest : List Token = token x ∷ m in
+      let whole : concatMap skeleton (inner x) ++ rest ≡ a ++ (q ++ (b ++ rest))
+      = ap (λ ts. ts ++ rest) (inner-tokens (fit .placed) front gone more (d .drop .split))
+      ∙ append-assoc a (q ++ b) rest ∙ ap (λ ts. a ++ ts) (append-assoc q b rest) in
+      let low : length (l ++ a) ≡ from = omega (arith, d .start, length-append l a) in
+      let said : Says table n ((l ++ a) ++ (q ++ (b ++ rest)))
+      = rw append-assoc (subst (λ (ts : List Token). Says table n (l ++ ts)) whole (own-said (fit .placed))) in
+      let short : Says table′ n′ ((l ++ a) ++ (b ++ rest))
+      = cut .says (l ++ a) q (b ++ rest) low (numbers .0 ∙ sym (d .gone)) said in
+      let left : concatMap skeleton (without (d .drop .at)) ++ rest ≡ a ++ (b ++ rest)
+      = ap (λ ts. ts ++ rest) (skeletons-append front more) ∙ append-assoc a b rest in
+      rw (← d .drop .says, left, ← append-assoc) short
+
+  pub drop-closing : Closing table′ n′ (part + n′ - n) (items - 1) alternation (without (d .drop .at)) l m
+  drop-closing = record {
+    old = length (inner x);
+    says = left-said;
+    here = omega
+        (arith, numbers, cut .left, d .gone, d .inside, ap length (skeletons-append front more), length-append a b);
+    counted = omega
+        (arith, d .all, ap length (d .drop .split), length-append front (gone ∷ more), length-append front more);
+    apart = each-without alternation front gone more
+        (rw (← d .drop .split, d .drop .all) (parts-flat alternation x (fit .placed .flat)));
+  }
+
+pub drops : (mark : Mark) {table table₁ table₂ : List ℕ} {n part n₁ n₂ end from items : ℕ}
+    → Tells end table (part + 1) (markedEnd mark (part + 1)) → Tells from table end (startOf end)
+    → items ≡ getD table (recordWords * (part + 1 - 1) + 3) 0 → Cut table table₁ n from (end - from) n₁
+    → Closes table₁ table₂ n₁ (part + n₁ - n) (items - 1) n₂ → Rewrites (dropping mark) table table₂ n part n₂
+drops mark t s e cut c = record {
+  by = λ before x y l m fit.
+      let d = drop-at mark fit t s e in
+      rw (d .drop .result) at (joined c (drop-closing fit d cut));
+}
+
+-- T7, by the kind of the part: a sequence becomes the empty set.
+pub voids : {table table₁ : List ℕ} {n part n′ w : ℕ} → w ≡ getD table (recordWords * (part + 1 - 1) + 0) 0 → w ≡ 5
+    → Shrinks table table₁ n part 2 n′ → Rewrites t7 table table₁ n part n′
+unfolding skeletonIn inner
+voids e z s = record {
+  by = λ before x y l m f.
+      let kind : kindOf x ≡ 5 = sym (own-word (f .placed) 0 (omega arith)) ∙ sym e ∙ z in
+      rw (ok-some (λ y. y ≡ bset void) (f .fits) (void-sequence x kind)) (s .by before x l m (f .placed));
+}
+
+-- And of an alternation the leftmost empty set goes.
+module _ {table : List ℕ} {n part w : ℕ} (e : w ≡ getD table (recordWords * (part + 1 - 1) + 0) 0) (z : w ≡ 5 → ⊥) where
+  other : {before : List ℕ} {x : Node} {l m : List Token} → Placed table n part before x l m → kindOf x ≡ 5 → ⊥
+  other p h = z (e ∙ own-word p 0 (omega arith) ∙ h)
+
+  pub void-fits : SomeFitting t7 table n part → SomeFitting (dropping Void) table n part
+  void-fits s = some-wide s (void-alternation (s .node) (other (s .fitting .placed)))
+
+  pub void-drops : {table₁ : List ℕ} {n′ : ℕ} → Rewrites (dropping Void) table table₁ n part n′
+      → Rewrites t7 table table₁ n part n′
+  void-drops r = record {
+    by = λ before x y l m f. r .by before x y l m (fitting-wide (void-alternation x (other (f .placed))) f);
+  }

@@ -1,0 +1,117 @@
+-- A row of parts of a kind: its own token says how many there are. Without parts it is empty, and with one it is that part.
+use mathlib.Core.Path.{_≡_, refl, sym, _∙_}
+use mathlib.Core.Option.{Option, none, some}
+use mathlib.Core.List.{List, [], _∷_, _++_, append-assoc, append-nil}
+use Prim.Native.Nat.{ℕ, zero, suc, _+_, _-_}
+use native.Mathlib.Omega.{arith}
+use lib.ListN.{length, length-append}
+use Rattle.meaning.specs.Node.{Node, Node.empty, Node.bset, Node.assert, Node.group, Node.seq, Node.alt, Node.many, Proper}
+use Rattle.meaning.specs.Flat.{Kind, Kind.sequence, Kind.alternation, Not, parts, link, join}
+use Rattle.meaning.specs.Results.{concatMap}
+use Rattle.table.specs.Laws.{Each, inner, countAll, parts-link}
+use Rattle.tidying_laws.specs.Laws.{onParts}
+use Rattle.tidying_laws.specs.Kept.{Ok, ok-two}
+use Rattle.tidying_shapes.specs.Skeleton.{Token, token, rowToken, skeletonIn, skeleton, row-parts, pair-own}
+use Rattle.tidying_shapes.specs.Tokens.{Says}
+use Rattle.tidying_shapes.specs.Edits.{Removed, Marked, Counted}
+use Rattle.tidying_shapes.specs.Told.{skeleton-count}
+use Rattle.tidying_rewriting.specs.Rewriting.{leafToken}
+
+-- As many tokens as records.
+pub skeletons-count : (l : List Node) → Each Proper l → length (concatMap skeleton l) ≡ countAll l
+skeletons-count [] p = refl
+skeletons-count (r ∷ l) p =
+    omega (arith, length-append (skeleton r) (concatMap skeleton l), skeleton-count r (p .0), skeletons-count l (p .1))
+
+pub skeletons-append : (l m : List Node) → concatMap skeleton (l ++ m) ≡ concatMap skeleton l ++ concatMap skeleton m
+skeletons-append [] m = refl
+skeletons-append (r ∷ l) m =
+    rw (skeletons-append l m) (sym (append-assoc (skeleton r) (concatMap skeleton l) (concatMap skeleton m)))
+
+-- A law on the parts of a kind fits only a row of them, and is told of the parts inside it.
+pub record RowOf (k : Kind) (f : List Node → Option Node) (x y : Node) : Type 0 where
+  pub says : token x ≡ rowToken k (length (inner x))
+  pub fits : f (inner x) ≡ some y
+  pub all : inner x ≡ parts k x
+
+ok-each : (P : Node → Type 0) (o : Option Node) → ((y : Node) → o ≡ some y → P y) → Ok P o
+ok-each P none h = tt
+ok-each P (some y) h = h y refl
+
+pub row-of : (k : Kind) (f : List Node → Option Node) (x : Node) → Ok (RowOf k f x) (onParts k f x)
+unfolding parts inner
+row-of k f empty = tt
+row-of k f (bset s) = tt
+row-of k f (assert a) = tt
+row-of k f (group n r) = tt
+row-of sequence f (alt r q) = tt
+row-of alternation f (seq r q) = tt
+row-of k f (many n e lazy r) = tt
+row-of sequence f (seq r q) =
+    let P : Node → Type 0 = RowOf sequence f (seq r q) in
+    let l : List Node = r ∷ parts sequence q in
+    ok-two P f l (λ h. ok-each P (f l) (λ y e. record { says = refl; fits = e; all = refl }))
+row-of alternation f (alt r q) =
+    let P : Node → Type 0 = RowOf alternation f (alt r q) in
+    let l : List Node = r ∷ parts alternation q in
+    ok-two P f l (λ h. ok-each P (f l) (λ y e. record { says = refl; fits = e; all = refl }))
+
+-- The tokens of a row over those of its parts, by how many parts there are.
+abbrev pub closed : Kind → ℕ → List Token → List Token
+closed k zero ts = leafToken 1 ∷ []
+closed k (suc zero) ts = ts
+closed k (suc (suc i)) ts = ts ++ (rowToken k (suc (suc i)) ∷ [])
+
+pub closed-join : (k : Kind) (l : List Node) → Each (Not k) l
+    → closed k (length l) (concatMap skeleton l) ≡ skeleton (join k l)
+unfolding skeletonIn inner
+closed-join k [] h = refl
+closed-join k (r ∷ []) h = append-nil (skeleton r)
+closed-join k (r ∷ q ∷ l) h = sym (pair-own k r (link k q l) ∙ rw (row-parts k (link k q l), parts-link k q l (h .1)))
+
+-- A row's own record, `root`, is set to how many parts are left.
+pub record Closes (table table′ : List ℕ) (n root kept n′ : ℕ) : Type 0 where
+  pub by : (k : Kind) (old : ℕ) (l ts m : List Token) → length l + length ts ≡ root → (kept ≡ 0 → ts ≡ [])
+      → Says table n (l ++ (ts ++ (rowToken k old ∷ m))) → Says table′ n′ (l ++ (closed k kept ts ++ m))
+
+module _ {table table′ : List ℕ} {n root kept : ℕ} where
+  closing : {n′ : ℕ} → ((k : Kind) (old : ℕ) (l ts m : List Token) → length (l ++ ts) ≡ root → (kept ≡ 0 → ts ≡ [])
+      → Says table n ((l ++ ts) ++ (rowToken k old ∷ m)) → Says table′ n′ (l ++ (closed k kept ts ++ m)))
+      → Closes table table′ n root kept n′
+  closing f = record { by = λ k old l ts m e z s. f k old l ts m (omega (arith, length-append l ts)) z (rw append-assoc s) }
+
+  pub closes-none : kept ≡ 0 → Marked table table′ root (leafToken 1) → Closes table table′ n root kept n
+  closes-none z e = closing (λ k old l ts m low none s.
+      rw z (rw (none z, append-nil) at (e .says n (l ++ ts) (rowToken k old) m low s)))
+
+  pub closes-one : kept ≡ 1 → Removed table table′ n root 1 → Closes table table′ n root kept (n - 1)
+  closes-one z e = closing (λ k old l ts m low none s.
+      rw (z, ← append-assoc) (e .says (l ++ ts) (rowToken k old ∷ []) m low refl s))
+
+  pub closes-more : (kept ≡ 0 → ⊥) → (kept ≡ 1 → ⊥) → Counted table table′ root kept → Closes table table′ n root kept n
+  closes-more z o e = closing (λ k old l ts m low none s.
+      rw (more k ts kept z o, append-assoc) (rw append-assoc at (e .says n (l ++ ts) (rowToken k old) m low s)))
+    where
+      more : (k : Kind) (ts : List Token) (i : ℕ) → (i ≡ 0 → ⊥) → (i ≡ 1 → ⊥) → closed k i ts ≡ ts ++ (rowToken k i ∷ [])
+      more k ts zero z o = absurd (z refl)
+      more k ts (suc zero) z o = absurd (o refl)
+      more k ts (suc (suc i)) z o = refl
+
+-- Where parts are left that are not of the row's kind, they are joined.
+pub record Closing (table : List ℕ) (n root kept : ℕ) (k : Kind) (parts : List Node) (l m : List Token) : Type 0 where
+  pub old : ℕ
+  pub says : Says table n (l ++ (concatMap skeleton parts ++ (rowToken k old ∷ m)))
+  pub here : length l + length (concatMap skeleton parts) ≡ root
+  pub counted : kept ≡ length parts
+  pub apart : Each (Not k) parts
+
+pub joined : {table table′ : List ℕ} {n root kept n′ : ℕ} {k : Kind} {parts : List Node} {l m : List Token}
+    → Closes table table′ n root kept n′ → Closing table n root kept k parts l m
+    → Says table′ n′ (l ++ (skeleton (join k parts) ++ m))
+joined {kept = kept} {k = k} {parts = parts} {l = l} {m = m} c g =
+    rw (← closed-join k parts (g .apart), ← g .counted)
+    (c .by k (g .old) l (concatMap skeleton parts) m (g .here) (λ z. empty-tokens parts (sym (g .counted) ∙ z)) (g .says))
+  where
+    empty-tokens : (ps : List Node) → length ps ≡ 0 → concatMap skeleton ps ≡ []
+    empty-tokens [] e = refl
+    empty-tokens (r ∷ ps) e = absurd (omega arith)
