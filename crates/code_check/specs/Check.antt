@@ -11,13 +11,10 @@ use Rattle.sets.specs.Sets.{below, between}
 use Rattle.sets.specs.Bits.{below-all, below-at, beq-eq}
 use Rattle.meaning.specs.Limits.{groupLimit, rowLimit, leastRows, rowWords, codeWords}
 use Rattle.machine.specs.Rows.{Row, rowAt}
+use Rattle.machine.specs.Kinds.{listed}
 use Rattle.machine.specs.Words.{wordAt, rowsSaid, groupsSaid, rowStart, decodeRow, rowIn, rowsIn, decode}
 use Rattle.machine.specs.Words.{rowPasses, mayBeLast, rowsPass, headerPasses, codePasses}
 use Rattle.machine.specs.Coded.{rowsIn-length, rowsIn-at}
-
--- The kinds that are listed.
-abbrev pub listed : ℕ → Bool
-listed kind = between 1 10 kind
 
 -- What the check asks of row q of code with n rows and g groups: its kind is listed, and the row passes.
 unfoldable pub rowChecked : List ℕ → ℕ → ℕ → ℕ → Bool

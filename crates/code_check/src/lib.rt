@@ -7,38 +7,26 @@ ghost use lib.ListN.{length};
 ghost use Rattle.meaning.specs.Limits.{rowWords};
 ghost use Rattle.machine.specs.Words.{rowStart, decodeRow, rowPasses, mayBeLast, headerPasses, codePasses};
 ghost use Rattle.machine.specs.Rows.{Row.reset};
-ghost use Rattle.code_check.specs.Check.{listed, rowChecked};
-
-// The words of a row.
-pub const ROW_WORDS: usize = 12;
-
-// The fewest rows and the most, and the most groups.
-pub const LEAST_ROWS: u32 = 8;
-
-pub const ROW_LIMIT: u32 = 1024;
-
-pub const GROUP_LIMIT: u32 = 15;
-
-// The kinds of rows.
-pub const ACCEPT: u32 = 1;
-
-pub const CONSUME: u32 = 2;
-
-pub const JUMP: u32 = 3;
-
-pub const FORK: u32 = 4;
-
-pub const OPEN: u32 = 5;
-
-pub const CLOSE: u32 = 6;
-
-pub const RESET: u32 = 7;
-
-pub const BEGIN: u32 = 8;
-
-pub const END: u32 = 9;
-
-pub const ASSERT: u32 = 10;
+ghost use Rattle.machine.specs.Kinds.{listed};
+ghost use Rattle.code_check.specs.Check.{rowChecked};
+use machine::ACCEPT;
+use machine::ASSERT;
+use machine::BEGIN;
+use machine::CLOSE;
+use machine::CONSUME;
+use machine::END;
+use machine::FIRST;
+use machine::FORK;
+use machine::GROUPS;
+use machine::JUMP;
+use machine::OPEN;
+use machine::RESET;
+use machine::ROWS;
+use machine::SECOND;
+use meaning::limits::GROUP_LIMIT;
+use meaning::limits::LEAST_ROWS;
+use meaning::limits::ROW_LIMIT;
+use meaning::limits::ROW_WORDS;
 
 // Whether a row of a listed kind may be the last: it is Accept, Jump, Fork or End.
 fn may_be_last(kind: u32) -> bool
@@ -70,8 +58,8 @@ fn row_passes(code: &[u32], q: usize, n: u32, g: u32) -> bool
     ensures { λ r. ⌜ r ≡ rowChecked (now (code .entry)) n g q ⌝ }
 {
     let start = ROW_WORDS * (q + 1);
-    let a = code[start + 1];
-    let b = code[start + 2];
+    let a = code[start + FIRST];
+    let b = code[start + SECOND];
     match code[start] {
         ACCEPT => true,
         CONSUME => true,
@@ -101,8 +89,8 @@ pub fn check(code: &[u32]) -> bool
     if code.len() < ROW_WORDS {
         return false;
     }
-    let n = code[0];
-    let g = code[1];
+    let n = code[ROWS];
+    let g = code[GROUPS];
     if !header_passes(n, g) {
         return false;
     }

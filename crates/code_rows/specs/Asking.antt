@@ -7,12 +7,12 @@ use Prim.Native.Nat.{ℕ, suc, _+_, _-_, _*_, _≤_, _<_}
 use native.Mathlib.Omega.{arith}
 use lib.Dec.{eqb}
 use lib.ListN.{length}
-use Rattle.meaning.specs.Limits.{rowLimit}
+use Rattle.meaning.specs.Limits.{rowLimit, noMaximum}
 use Rattle.meaning.specs.Node.{Node, Node.empty, Node.bset, Node.assert, Node.group, Node.many}
 use Rattle.meaning.specs.Flat.{Kind, Kind.sequence, Kind.alternation}
 use Rattle.machine.specs.Rows.{Row}
 use Rattle.machine.specs.Layout.{sizeOf, past, pastTurn, rowsOf}
-use Rattle.table.specs.Table.{recordWords, noMaximum, maximum, bitOf, sizeCap}
+use Rattle.table.specs.Table.{recordWords, maximum, bitOf, sizeCap}
 use Rattle.code_rows.specs.Emits.{Part, Asks, Lays, Counted, freshSize, repeatsSize, turnSize, turnOf, turnsSize}
 use Rattle.code_words.specs.Wrote.{wordOf, Room, Wrote}
 use Rattle.code_words.specs.Wrote.{room-before}

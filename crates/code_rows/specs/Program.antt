@@ -10,6 +10,7 @@ use Rattle.sets.specs.Sets.{Holds}
 use Rattle.sets.specs.Laws.{words-of}
 use Rattle.meaning.specs.Limits.{rowLimit, leastRows, rowWords, codeWords}
 use Rattle.meaning.specs.Node.{Node}
+use Rattle.machine.specs.Kinds.{headerZeros}
 use Rattle.machine.specs.Rows.{Row, Row.accept, Row.consume, Row.fork, Row.opens, Row.closes}
 use Rattle.machine.specs.Rows.{Row.reset, Row.begin, Row.end as ends, rowCount}
 use Rattle.machine.specs.Layout.{sizeOf, rowsOf, anyByte, programOf}
@@ -65,7 +66,7 @@ wrote-prefix {code} {c₅ = c₅} {at₅ = at₅} room set w₁ w₂ w₃ w₄ w
 -- The header row goes before all.
 headed : {code c₁ c₂ : List ℕ} {n g : ℕ} (rows : List Row) → codeWords n ≤ length code → Wrote code c₁ 0 n n (inWords rows)
     → c₂ ≡ take 0 c₁ ++ (plainWords n g 0 ++ drop (0 + rowWords) c₁)
-    → c₂ ≡ (n ∷ g ∷ (replicate 10 0 ++ inWords rows)) ++ drop (codeWords n) code
+    → c₂ ≡ (n ∷ g ∷ (replicate headerZeros 0 ++ inWords rows)) ++ drop (codeWords n) code
 headed {code} {c₁} {c₂} {n} {g} rows long w e =
     let rest : List ℕ = inWords rows ++ drop (codeWords n) code in
     let tail : drop rowWords c₁ ≡ rest
@@ -94,4 +95,4 @@ wrote-program {code} {c₄ = c₄} {c₅ = c₅} {n = n} {at₃ = at₃} {at₄ 
     = wrote-as (rows-then prefixRows (opens 0 ∷ (rowsOf r 6 ++ stop)) room whole′ w₅) (omega (arith, size)) refl in
     let count : n ≡ rowCount (programOf g r) = size ∙ sym (program-stands g r .counts) in
     headed (programOf g r .rows) (room .long) all e
-    ∙ ap₂ (λ k m. (k ∷ g ∷ (replicate 10 0 ++ inWords (programOf g r .rows))) ++ drop (codeWords m) code) count size
+    ∙ ap₂ (λ k m. (k ∷ g ∷ (replicate headerZeros 0 ++ inWords (programOf g r .rows))) ++ drop (codeWords m) code) count size

@@ -8,18 +8,6 @@ ghost use Rattle.code_words.specs.Wrote.{wordOf, Room, Wrote};
 ghost use Rattle.code_rows.specs.Lines.{inWords};
 ghost use Rattle.code_rows.specs.Program.{prefixRows, Compiling, Compiles};
 ghost use Rattle.code_rows.specs.Emission.{SomeTabled, Emits};
-use code_check::ACCEPT;
-use code_check::ASSERT;
-use code_check::BEGIN;
-use code_check::CLOSE;
-use code_check::END;
-use code_check::FORK;
-use code_check::JUMP;
-use code_check::LEAST_ROWS;
-use code_check::OPEN;
-use code_check::RESET;
-use code_check::ROW_LIMIT;
-use code_check::ROW_WORDS;
 use code_words::consuming;
 use code_words::place;
 use code_words::plain;
@@ -28,47 +16,38 @@ use code_words::put_before;
 use code_words::row_before;
 use code_words::set_of;
 use code_words::word;
-
-// The words of a record that are read here.
-const KIND: usize = 0;
-
-const OPERAND: usize = 1;
-
-const ITEMS: usize = 3;
-
-const SIZE: usize = 4;
-
-const LOWEST: usize = 5;
-
-const HIGHEST: usize = 6;
-
-const LEAST: usize = 8;
-
-const MOST: usize = 9;
-
-const LAZY: usize = 10;
-
-// The kinds of records, but for that of an empty part, which has no rows.
-const BYTE_SET: u32 = 2;
-
-const ASSERTION: u32 = 3;
-
-const GROUP: u32 = 4;
-
-const SEQUENCE: u32 = 5;
-
-const ALTERNATION: u32 = 6;
-
-const QUANTIFIER: u32 = 7;
-
-// A quantifier's maximum where it has none.
-const NO_MAXIMUM: u32 = 1001;
+use machine::ACCEPT;
+use machine::ASSERT;
+use machine::BEGIN;
+use machine::CLOSE;
+use machine::END;
+use machine::FORK;
+use machine::JUMP;
+use machine::MATCH_ROW;
+use machine::OPEN;
+use machine::RESET;
+use meaning::limits::LEAST_ROWS;
+use meaning::limits::NO_MAXIMUM;
+use meaning::limits::ROW_LIMIT;
+use meaning::limits::ROW_WORDS;
+use table::ALTERNATION;
+use table::ASSERTION;
+use table::BYTE_SET;
+use table::GROUP;
+use table::HIGHEST;
+use table::ITEMS;
+use table::KIND;
+use table::LAZY;
+use table::LEAST;
+use table::LOWEST;
+use table::MOST;
+use table::OPERAND;
+use table::QUANTIFIER;
+use table::SEQUENCE;
+use table::SIZE;
 
 // The rows of a turn besides its part's: Fork, Begin, Reset, End.
 const TURN_ROWS: usize = 4;
-
-// The row where a match begins, behind the prefix.
-const MATCH_ROW: usize = 5;
 
 // The rows of the part whose records end at `top`, by its kind; an empty part has none.
 fn part(table: &[u32], top: usize, code: &mut [u32], end: usize) -> usize

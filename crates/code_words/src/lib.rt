@@ -7,15 +7,12 @@ ghost use Rattle.meaning.specs.Limits.{rowWords};
 ghost use Rattle.machine.specs.Words.{plainWords};
 ghost use Rattle.table.specs.Table.{recordWords};
 ghost use Rattle.code_words.specs.Wrote.{wordOf, Room, Wrote};
-use code_check::CONSUME;
-use code_check::ROW_WORDS;
-
-// The words of a record, and where its set begins.
-const RECORD_WORDS: usize = 16;
-
-pub const RECORDS: usize = 2;
-
-const SET: usize = 8;
+use machine::CONSUME;
+use meaning::limits::ROW_WORDS;
+use meaning::limits::SET_WORDS;
+use table::RECORD_WORDS;
+use table::RECORDS;
+use table::SET;
 
 // Word `which` of the record before record number `top`.
 pub fn word(table: &[u32], top: usize, which: usize) -> u32
@@ -34,52 +31,52 @@ pub fn previous(table: &[u32], top: usize) -> usize
 }
 
 // The byte set of that record.
-pub fn set_of(table: &[u32], top: usize) -> [u32; 8]
+pub fn set_of(table: &[u32], top: usize) -> [u32; SET_WORDS]
     requires { ⌜ (0 < top) × (recordWords * top ≤ length (now table)) ⌝ }
     ensures { λ r. ⌜ r ≡ take 8 (drop (recordWords * (top - 1) + 8) (now (table .entry))) ⌝ }
 {
-    let mut set = [0u32; 8];
-    for i in 0..8usize {
+    let mut set = [0u32; SET_WORDS];
+    for i in 0..SET_WORDS {
         set[i] = word(table, top, SET + i);
     }
     set
 }
 
 // The words of a row that has two operands and no set.
-pub fn plain(kind: u32, a: u32, b: u32) -> [u32; 12]
+pub fn plain(kind: u32, a: u32, b: u32) -> [u32; ROW_WORDS]
     ensures { λ r. ⌜ r ≡ plainWords kind a b ⌝ }
 {
-    let mut row = [0u32; 12];
-    row[0] = kind;
-    row[1] = a;
-    row[2] = b;
+    let mut row = [0u32; ROW_WORDS];
+    row[machine::KIND] = kind;
+    row[machine::FIRST] = a;
+    row[machine::SECOND] = b;
     row
 }
 
 // The words of a row that consumes a byte of a set.
-pub fn consuming(set: [u32; 8]) -> [u32; 12]
+pub fn consuming(set: [u32; SET_WORDS]) -> [u32; ROW_WORDS]
     ensures { λ r. ⌜ r ≡ 2 ∷ 0 ∷ 0 ∷ 0 ∷ set ⌝ }
 {
     let mut row = plain(CONSUME, 0, 0);
-    for i in 0..8usize {
-        row[4 + i] = set[i];
+    for i in 0..SET_WORDS {
+        row[machine::SET + i] = set[i];
     }
     row
 }
 
-// Writes twelve words from word `start` on.
-pub fn place(code: &mut [u32], start: usize, row: [u32; 12])
+// Writes the words of a row from word `start` on.
+pub fn place(code: &mut [u32], start: usize, row: [u32; ROW_WORDS])
     requires { ⌜ start + rowWords ≤ length (now code) ⌝ }
     ensures { λ r. ⌜ now (code .exit) ≡ take start (now (code .entry)) ++
         (row ++ drop (start + rowWords) (now (code .entry))) ⌝ }
 {
-    for i in 0..12usize {
+    for i in 0..ROW_WORDS {
         code[start + i] = row[i];
     }
 }
 
 // Writes a row before row `end`.
-pub fn put_before(code: &mut [u32], end: usize, row: [u32; 12]) -> usize
+pub fn put_before(code: &mut [u32], end: usize, row: [u32; ROW_WORDS]) -> usize
     requires { ⌜ (0 < end) × Room (now code) end ⌝ }
     ensures { λ r. ⌜ Wrote (now (code .entry)) (now (code .exit)) r end 1 row ⌝ }
 {

@@ -1,13 +1,10 @@
 // From a pattern's bytes to the code of its program, or to the outline's refusal.
 ghost use Rattle.compiler.specs.Compiling.{Compiles, Cleared};
-use reading_items::clear;
-use reading::Reading;
 use code_rows::Emission;
-
-// The outline's numbers for what has no program: too many rows, and code too short for them.
-pub const MANY_ROWS: u32 = 15;
-
-pub const SHORT_CODE: u32 = 16;
+use meaning::refusals::MANY_ROWS;
+use meaning::refusals::SHORT_CODE;
+use reading::Reading;
+use reading_items::clear;
 
 // What a pattern's compilation answers.
 pub enum Compilation {
@@ -30,7 +27,12 @@ pub fn compile(pattern: &[u8], table: &mut [u32], code: &mut [u32]) -> Compilati
 {
     match reading::read(pattern, table) {
         Reading::Refused { number, place } => Compilation::Refused { number, place },
-        Reading::Pattern { records, groups } => match code_rows::emit(table, records, groups, code) {
+        Reading::Pattern { records, groups } => match code_rows::emit(
+            table,
+            records,
+            groups,
+            code,
+        ) {
             Emission::Rows(rows) => Compilation::Rows { rows, groups },
             Emission::TooMany => without_program(table, MANY_ROWS),
             Emission::TooShort => without_program(table, SHORT_CODE),

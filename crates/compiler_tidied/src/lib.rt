@@ -1,14 +1,14 @@
 // From a pattern's bytes to the code of the program of its tidied pattern, or to the outline's refusal.
 ghost use Rattle.tidying.specs.Held.{SomeHeld};
 ghost use Rattle.compiler_tidied.specs.Compiling.{TellsRows, Programs, CompilesTidied};
-use compiler::Compilation;
-use compiler::MANY_ROWS;
-use compiler::SHORT_CODE;
-use compiler::without_program;
-use code_check::LEAST_ROWS;
-use code_check::ROW_LIMIT;
-use reading::Reading;
 use code_rows::Emission;
+use compiler::Compilation;
+use compiler::without_program;
+use meaning::limits::LEAST_ROWS;
+use meaning::limits::ROW_LIMIT;
+use meaning::refusals::MANY_ROWS;
+use meaning::refusals::SHORT_CODE;
+use reading::Reading;
 use tidying::tidy;
 
 // Whether the pattern whose records are the table's first has too many rows. What is asked: that there is such a pattern.

@@ -18,7 +18,7 @@ use lib.ListN.{length, getD, set, take, drop, replicate, length-append, length-m
 use lib.Seq.{take-suc, drop-cons, getD-take, getD-drop, set-at, length-take-le}
 use Rattle.meaning.specs.Text.{Regs, registersOf}
 use Rattle.meaning.specs.Bytes.{textOf}
-use Rattle.meaning.specs.Limits.{textLimit, workspaceWords, leastRows}
+use Rattle.meaning.specs.Limits.{textLimit, positionLimit, workspaceWords, leastRows}
 use Rattle.machine.specs.Steps.{Machine, best, count}
 use Rattle.machine.specs.Words.{rowsSaid, groupsSaid, decode, codePasses}
 use Rattle.machine.specs.Coded.{rowsIn-length}
@@ -39,7 +39,7 @@ use Rattle.engine.specs.declared.Answer.the-variants.{Found, Missing, Re
 -- ---- refusals
 
 -- Positions of a text that is not too long fit a register.
-pub text-small : textLimit + 2 < 2147483648
+pub text-small : textLimit + 2 < positionLimit
 text-small = omega arith
 
 module _ (code text : List ℕ) (start registers workspace : ℕ) where
@@ -133,13 +133,13 @@ words-few n g a b = let d : 16 * n ≤ 16384 = omega arith in let e : g + 2 ≤ 
 
 -- ---- registers
 
-pub shows-position : (v : ℕ) → v < 2147483648 → pos v ≡ shown (regOf v)
+pub shows-position : (v : ℕ) → v < positionLimit → pos v ≡ shown (regOf v)
 unfolding regOf
-shows-position v h = rw (lt-ltb v 2147483648 h)
+shows-position v h = rw (lt-ltb v positionLimit h)
 
-pub shows-none : (v : ℕ) → 2147483648 ≤ v → negsuc 0 ≡ shown (regOf v)
+pub shows-none : (v : ℕ) → positionLimit ≤ v → negsuc 0 ≡ shown (regOf v)
 unfolding regOf
-shows-none v h = rw (le-ltb v 2147483648 h)
+shows-none v h = rw (le-ltb v positionLimit h)
 
 map-snoc : (xs : List ℕ) (x : ℕ) → map shownWord (xs ++ (x ∷ [])) ≡ map shownWord xs ++ (shownWord x ∷ [])
 map-snoc [] x = refl
@@ -285,5 +285,5 @@ with-registers {code} {text} {start} {row} {before} {workspace = workspace} {lef
     subst (λ (xs : List ℤ). Answered code text start row before workspace r xs left) (sym e) a
 
 -- a signed number is read back from its bits
-pub read-back : (z : ℤ) → mag z < 2147483648 → toZ w32 (ofZ w32 z) ≡ z
+pub read-back : (z : ℤ) → mag z < positionLimit → toZ w32 (ofZ w32 z) ≡ z
 read-back z m = toZ-ofZ (record { sfits = m })

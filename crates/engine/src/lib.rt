@@ -9,25 +9,17 @@ ghost use Rattle.machine.specs.Replies.{refusal, shown};
 ghost use Rattle.running_threads.specs.Words.{wordsAt};
 ghost use Rattle.running_threads.specs.Threads.{regOf};
 ghost use Rattle.engine.specs.Answers.{shownWord, Answered};
-
-// The longest text, in bytes.
-pub const TEXT_LIMIT: usize = 1048576;
-
-// The rows at which matching at the start and searching begin.
-pub const MATCH_ROW: usize = 5;
-
-pub const SEARCH_ROW: usize = 0;
-
-// Why a run is turned away.
-pub const CODE_FAILS: u32 = 20;
-
-pub const TEXT_TOO_LONG: u32 = 21;
-
-pub const START_BEYOND: u32 = 22;
-
-pub const FEW_REGISTERS: u32 = 23;
-
-pub const SMALL_WORKSPACE: u32 = 24;
+use machine::GROUPS;
+use machine::MATCH_ROW;
+use machine::ROWS;
+use machine::SEARCH_ROW;
+use meaning::limits::POSITION_LIMIT;
+use meaning::limits::TEXT_LIMIT;
+use meaning::refusals::CODE_FAILS;
+use meaning::refusals::FEW_REGISTERS;
+use meaning::refusals::LONG_TEXT;
+use meaning::refusals::SMALL_WORKSPACE;
+use meaning::refusals::START_BEYOND;
 
 // Found or none, with the count of rows executed; or turned away, by a number.
 pub enum Answer {
@@ -44,13 +36,13 @@ fn turned_away(code: &[u32], text: &[u8], start: usize, registers: usize, worksp
         return CODE_FAILS;
     }
     if text.len() > TEXT_LIMIT {
-        return TEXT_TOO_LONG;
+        return LONG_TEXT;
     }
     if start > text.len() {
         return START_BEYOND;
     }
-    let n = running_threads::wide(code[0]);
-    let g = running_threads::wide(code[1]);
+    let n = running_threads::wide(code[ROWS]);
+    let g = running_threads::wide(code[GROUPS]);
     if registers < 2 * (g + 1) {
         return FEW_REGISTERS;
     }
@@ -64,7 +56,7 @@ fn turned_away(code: &[u32], text: &[u8], start: usize, registers: usize, worksp
 fn show(v: u32) -> i32
     ensures { λ r. ⌜ r ≡ shown (regOf v) ⌝ }
 {
-    if v < 2147483648 {
+    if v < POSITION_LIMIT {
         return v as i32;
     }
     -1

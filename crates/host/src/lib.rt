@@ -9,16 +9,14 @@ ghost use Rattle.engine.specs.Answers.{replyOf, Answered};
 ghost use Rattle.host.specs.Surface.{compiledNumbers, ranNumbers, lentWords, CompilesOne, CompilesBytes, RunsBytes};
 use compiler::Compilation;
 use engine::Answer;
-use millkettle::CODE_WORDS;
-use millkettle::TABLE_WORDS;
-use millkettle::WORKSPACE_WORDS;
+use meaning::limits::CODE_SIZE;
+use meaning::limits::REGISTER_LIMIT;
+use meaning::limits::TABLE_SIZE;
+use meaning::limits::WORKSPACE_SIZE;
 use wire::load_ints;
 use wire::load_words;
 use wire::store_ints;
 use wire::store_words;
-
-// The most registers that a run writes: two for each group and for the whole match.
-const REGISTERS: usize = 2 * (code_check::GROUP_LIMIT as usize + 1);
 
 // What compiling answers: 0, the rows and the groups; or the number of a refusal and its place.
 #[repr(C)]
@@ -110,9 +108,9 @@ fn code_for(tidying: bool, pattern: &[u8], table: &mut [u32], code: &mut [u32]) 
 fn compile_lent(tidying: bool, pattern: &[u8], code: &mut [u8]) -> Compiled
     ensures { λ r. ⌜ CompilesBytes tidying (now (pattern .entry)) (now (code .entry)) r (now (code .exit)) ⌝ }
 {
-    let mut table = [0u32; TABLE_WORDS];
-    let mut inside = [0u32; CODE_WORDS];
-    let room = lent_words(code.len(), CODE_WORDS);
+    let mut table = [0u32; TABLE_SIZE];
+    let mut inside = [0u32; CODE_SIZE];
+    let room = lent_words(code.len(), CODE_SIZE);
     let words = &mut inside[..room];
     load_words(code, words);
     let answer = code_for(tidying, pattern, &mut table, words);
@@ -161,17 +159,17 @@ fn run_lent(searching: bool, code: &[u8], text: &[u8], start: usize, registers: 
         (now (registers .entry)) r (now (registers .exit)) ⌝ }
 {
     let lent = code.len() / 4;
-    if lent > CODE_WORDS {
-        return ran_numbers(Answer::Refused(engine::CODE_FAILS));
+    if lent > CODE_SIZE {
+        return ran_numbers(Answer::Refused(meaning::refusals::CODE_FAILS));
     }
-    let mut inside = [0u32; CODE_WORDS];
+    let mut inside = [0u32; CODE_SIZE];
     let words = &mut inside[..lent];
     load_words(code, words);
-    let mut slots = [0i32; REGISTERS];
-    let used = lent_words(registers.len(), REGISTERS);
+    let mut slots = [0i32; REGISTER_LIMIT];
+    let used = lent_words(registers.len(), REGISTER_LIMIT);
     let spans = &mut slots[..used];
     load_ints(registers, spans);
-    let mut workspace = [0u32; WORKSPACE_WORDS];
+    let mut workspace = [0u32; WORKSPACE_SIZE];
     let answer = answer_from(searching, words, text, start, spans, &mut workspace);
     store_ints(spans, registers);
     ran_numbers(answer)

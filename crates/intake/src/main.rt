@@ -11,9 +11,9 @@ use intake_lines::Phase;
 use libc::STDERR_FILENO;
 use libc::STDIN_FILENO;
 use libc::STDOUT_FILENO;
-use millkettle::CODE_WORDS;
-use millkettle::TABLE_WORDS;
-use millkettle::WORKSPACE_WORDS;
+use meaning::limits::CODE_SIZE;
+use meaning::limits::TABLE_SIZE;
+use meaning::limits::WORKSPACE_SIZE;
 
 // Where the work stands between two pieces of the input, and how many bytes of the present line are kept.
 struct Standing {
@@ -58,9 +58,9 @@ fn work_through(
     standing: Standing,
     piece: &[u8],
     line: &mut [u8; KEPT_LIMIT],
-    table: &mut [u32; TABLE_WORDS],
-    code: &mut [u32; CODE_WORDS],
-    workspace: &mut [u32; WORKSPACE_WORDS],
+    table: &mut [u32; TABLE_SIZE],
+    code: &mut [u32; CODE_SIZE],
+    workspace: &mut [u32; WORKSPACE_SIZE],
     out: &mut [u8],
 ) -> Standing
     requires { ⌜ (standing .kept ≤ keptLimit) × (lineRoom ≤ length (now out)) ⌝ }
@@ -100,9 +100,9 @@ fn turn(
     standing: Standing,
     chunk: &mut [u8],
     line: &mut [u8; KEPT_LIMIT],
-    table: &mut [u32; TABLE_WORDS],
-    code: &mut [u32; CODE_WORDS],
-    workspace: &mut [u32; WORKSPACE_WORDS],
+    table: &mut [u32; TABLE_SIZE],
+    code: &mut [u32; CODE_SIZE],
+    workspace: &mut [u32; WORKSPACE_SIZE],
     out: &mut [u8],
 ) -> Standing
     requires { ⌜ (standing .kept ≤ keptLimit) × (lineRoom ≤ length (now out)) ⌝ }
@@ -128,9 +128,9 @@ fn main() {
     let mut chunk = io::large_buffer();
     let mut out = io::large_buffer();
     let mut line = [0u8; KEPT_LIMIT];
-    let mut table = [0u32; TABLE_WORDS];
-    let mut code = [0u32; CODE_WORDS];
-    let mut workspace = [0u32; WORKSPACE_WORDS];
+    let mut table = [0u32; TABLE_SIZE];
+    let mut code = [0u32; CODE_SIZE];
+    let mut workspace = [0u32; WORKSPACE_SIZE];
     let mut standing = Standing {
         phase: Phase::Pattern,
         kept: 0,

@@ -9,12 +9,10 @@ ghost use Rattle.intake_feeding.specs.Fed.{workOf, Keeps, Steps, Feeds};
 use intake_lines::LINE_LIMIT;
 use intake_lines::LINE_ROOM;
 use intake_lines::Phase;
-use millkettle::CODE_WORDS;
-use millkettle::TABLE_WORDS;
-use millkettle::WORKSPACE_WORDS;
-
-// LF, which ends a line.
-const LF: u8 = 10;
+use meaning::limits::CODE_SIZE;
+use meaning::limits::LF;
+use meaning::limits::TABLE_SIZE;
+use meaning::limits::WORKSPACE_SIZE;
 
 // A line is kept up to one byte more than its limit, which shows that it is too long.
 pub const KEPT_LIMIT: usize = LINE_LIMIT + 1;
@@ -44,9 +42,9 @@ fn step(
     fed: Fed,
     piece: &[u8],
     line: &mut [u8; KEPT_LIMIT],
-    table: &mut [u32; TABLE_WORDS],
-    code: &mut [u32; CODE_WORDS],
-    workspace: &mut [u32; WORKSPACE_WORDS],
+    table: &mut [u32; TABLE_SIZE],
+    code: &mut [u32; CODE_SIZE],
+    workspace: &mut [u32; WORKSPACE_SIZE],
     out: &mut [u8],
 ) -> Fed
     requires { ⌜ (fed .taken < length (now piece)) × (fed .kept ≤ keptLimit) × (fed .end + lineRoom ≤ length (now out)) ⌝ }
@@ -90,9 +88,9 @@ pub fn feed(
     kept: usize,
     piece: &[u8],
     line: &mut [u8; KEPT_LIMIT],
-    table: &mut [u32; TABLE_WORDS],
-    code: &mut [u32; CODE_WORDS],
-    workspace: &mut [u32; WORKSPACE_WORDS],
+    table: &mut [u32; TABLE_SIZE],
+    code: &mut [u32; CODE_SIZE],
+    workspace: &mut [u32; WORKSPACE_SIZE],
     out: &mut [u8],
 ) -> Fed
     requires { ⌜ kept ≤ keptLimit ⌝ }
@@ -116,9 +114,9 @@ pub fn finish(
     phase: Phase,
     kept: usize,
     line: &[u8; KEPT_LIMIT],
-    table: &mut [u32; TABLE_WORDS],
-    code: &mut [u32; CODE_WORDS],
-    workspace: &mut [u32; WORKSPACE_WORDS],
+    table: &mut [u32; TABLE_SIZE],
+    code: &mut [u32; CODE_SIZE],
+    workspace: &mut [u32; WORKSPACE_SIZE],
     out: &mut [u8],
 ) -> usize
     requires { ⌜ (kept ≤ keptLimit) × (lineRoom ≤ length (now out)) ⌝ }

@@ -8,17 +8,16 @@ ghost use Rattle.intake_lines.specs.Ended.{lineRoom, Ends};
 ghost use Rattle.intake_lines.specs.declared.Phase.the-variants.{Pattern};
 use compiler::Compilation;
 use engine::Answer;
-use millkettle::CODE_WORDS;
-use millkettle::TABLE_WORDS;
-use millkettle::WORKSPACE_WORDS;
+use machine::GROUPS;
+use meaning::limits::CODE_SIZE;
+use meaning::limits::REGISTER_LIMIT;
+use meaning::limits::TABLE_SIZE;
+use meaning::limits::WORKSPACE_SIZE;
 
 // The most bytes of a line.
 pub const LINE_LIMIT: usize = 4096;
 
-// Registers for as many groups as there may be, and the most bytes that are written for a line.
-const REGISTERS: usize = 2 * (code_check::GROUP_LIMIT as usize + 1);
-
-pub const LINE_ROOM: usize = 12 * REGISTERS + 1;
+pub const LINE_ROOM: usize = 12 * REGISTER_LIMIT + 1;
 
 // Where the work stands: at the pattern line, at text lines, or over, since the pattern was refused.
 pub enum Phase {
@@ -35,9 +34,9 @@ pub struct Ended {
 
 // The line for a text line. It asks for room.
 fn put_text_line(
-    code: &[u32; CODE_WORDS],
+    code: &[u32; CODE_SIZE],
     line: &[u8],
-    workspace: &mut [u32; WORKSPACE_WORDS],
+    workspace: &mut [u32; WORKSPACE_SIZE],
     out: &mut [u8],
     at: usize,
 ) -> usize
@@ -45,12 +44,12 @@ fn put_text_line(
     ensures { λ r. ⌜ Wrote (now (out .entry)) (now (out .exit)) at (lineFor (now (code .entry)) (now (line .entry))) r ⌝ }
 {
     if line.len() > LINE_LIMIT {
-        return intake_report::put_refused(out, at, engine::TEXT_TOO_LONG as u64);
+        return intake_report::put_refused(out, at, meaning::refusals::LONG_TEXT as u64);
     }
-    let mut registers = [0i32; REGISTERS];
+    let mut registers = [0i32; REGISTER_LIMIT];
     match millkettle::search(code, line, 0, &mut registers, workspace) {
         Answer::Found(_) => {
-            let groups = code[1] as usize;
+            let groups = code[GROUPS] as usize;
             intake_report::put_spans(out, at, &registers, 2 * (groups + 1))
         }
         Answer::Missing(_) => intake_report::put_none(out, at),
@@ -61,8 +60,8 @@ fn put_text_line(
 // The line for the pattern line, whose rows are in the code behind it. It asks for room.
 fn put_pattern_line(
     pattern: &[u8],
-    table: &mut [u32; TABLE_WORDS],
-    code: &mut [u32; CODE_WORDS],
+    table: &mut [u32; TABLE_SIZE],
+    code: &mut [u32; CODE_SIZE],
     out: &mut [u8],
     at: usize,
 ) -> Ended
@@ -86,9 +85,9 @@ fn put_pattern_line(
 pub fn end_line(
     phase: Phase,
     line: &[u8],
-    table: &mut [u32; TABLE_WORDS],
-    code: &mut [u32; CODE_WORDS],
-    workspace: &mut [u32; WORKSPACE_WORDS],
+    table: &mut [u32; TABLE_SIZE],
+    code: &mut [u32; CODE_SIZE],
+    workspace: &mut [u32; WORKSPACE_SIZE],
     out: &mut [u8],
     at: usize,
 ) -> Ended

@@ -8,9 +8,7 @@ ghost use Rattle.intake_report.specs.Texts.{decimal, shownNumber, spansL
 ghost use Rattle.intake_report.specs.Texts.{headerLine, refusedAt, refusedRun, noneLine};
 ghost use Rattle.intake_report.specs.Lines.{FoundLf};
 ghost use Rattle.intake_report.specs.Wrote.{Wrote};
-
-// LF, which ends a line.
-const LF: u8 = 10;
+use meaning::limits::LF;
 
 // One byte.
 fn put_byte(out: &mut [u8], at: usize, byte: u8) -> usize

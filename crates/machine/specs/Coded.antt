@@ -20,6 +20,7 @@ use Rattle.machine.specs.Rows.{Program, rowCount, rowAt}
 use Rattle.machine.specs.Layout.{sizeOf, programOf}
 use Rattle.machine.specs.Laid.{Stand, program-stands}
 use Rattle.machine.specs.Compiled.{Rules, every-row, compiled-passes}
+use Rattle.machine.specs.Kinds.{headerZeros, listed}
 use Rattle.machine.specs.Words.{wordAt, rowStart, decodeRow, rowIn, rowsIn, decode, wordsOf, codeOf, rowsPass}
 use Rattle.machine.specs.Words.{headerPasses, codePasses}
 
@@ -63,17 +64,17 @@ said (end t) e rest = refl
 said (assertion a) e rest = refl
 
 -- The kind of a row is listed.
-listed : (row : Row) (rest : List ℕ) → between 1 10 (getD (wordsOf row ++ rest) 0 0) ≡ true
-listed accept rest = refl
-listed (consume s) rest = refl
-listed (jump t) rest = refl
-listed (fork t u) rest = refl
-listed (opens k) rest = refl
-listed (closes k) rest = refl
-listed (reset l h) rest = refl
-listed begin rest = refl
-listed (end t) rest = refl
-listed (assertion a) rest = refl
+row-listed : (row : Row) (rest : List ℕ) → listed (getD (wordsOf row ++ rest) 0 0) ≡ true
+row-listed accept rest = refl
+row-listed (consume s) rest = refl
+row-listed (jump t) rest = refl
+row-listed (fork t u) rest = refl
+row-listed (opens k) rest = refl
+row-listed (closes k) rest = refl
+row-listed (reset l h) rest = refl
+row-listed begin rest = refl
+row-listed (end t) rest = refl
+row-listed (assertion a) rest = refl
 
 and-all : (a b c d : Bool) → a ≡ true → b ≡ true → c ≡ true → d ≡ true → (a && b && c && d) ≡ true
 and-all a b c d ha hb hc hd = rw (ha, hb, hc, hd)
@@ -120,7 +121,7 @@ module _ (p : Program) (whole : (q : ℕ) → q < rowCount p → Whole (rowAt (p
     unfolding codeOf
     cut-code q h =
         let c : Cut (concatMap wordsOf (p .rows)) (rowAt (p .rows) q) (rowWords * q) = cut (p .rows) whole q h in
-        let header : List ℕ = rowCount p ∷ p .groups ∷ replicate 10 0 in
+        let header : List ℕ = rowCount p ∷ p .groups ∷ replicate headerZeros 0 in
         let words : List ℕ = wordsOf (rowAt (p .rows) q) in
         record {
           before = header ++ c .before;
@@ -138,13 +139,13 @@ module _ (p : Program) (whole : (q : ℕ) → q < rowCount p → Whole (rowAt (p
         ap (λ l. rowIn l q) (c .parts) ∙ says (c .before) (wordsOf (rowAt (p .rows) q) ++ c .after) q (c .long)
         ∙ said (rowAt (p .rows) q) (whole q h) (c .after)
 
-    kind-back : (q : ℕ) → q < rowCount p → between 1 10 (wordAt code (rowStart q)) ≡ true
+    kind-back : (q : ℕ) → q < rowCount p → listed (wordAt code (rowStart q)) ≡ true
     kind-back q h =
         let c : Cut code (rowAt (p .rows) q) (rowStart q) = cut-code q h in
         let words : List ℕ = wordsOf (rowAt (p .rows) q) ++ c .after in
         let e : wordAt code (rowStart q) ≡ getD words 0 0
         = ap₂ wordAt (c .parts) (omega (arith, c .long)) ∙ getD-append-add (c .before) words 0 0 in
-        ap (between 1 10) e ∙ listed (rowAt (p .rows) q) (c .after)
+        ap listed e ∙ row-listed (rowAt (p .rows) q) (c .after)
 
     -- Code says the program that it was written from.
     pub code-says : decode code ≡ p
@@ -167,7 +168,7 @@ module _ (p : Program) (whole : (q : ℕ) → q < rowCount p → Whole (rowAt (p
         let header : headerPasses n (p .groups) ≡ true
         = rw (le-leb leastRows n low, le-leb n rowLimit high, le-leb (p .groups) groupLimit few) in
         and-all (leb (codeWords n) (length code)) (headerPasses n (p .groups))
-        (below n (λ q. between 1 10 (wordAt code (rowStart q)))) (rowsPass (decode code))
+        (below n (λ q. listed (wordAt code (rowStart q)))) (rowsPass (decode code))
         (le-leb (codeWords n) (length code) long) header (below-all n _ kind-back) (ap rowsPass code-says ∙ pass)
 
 -- Each row of a pattern's program is 12 words.

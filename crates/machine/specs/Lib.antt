@@ -1,4 +1,5 @@
 pub mod Rows
+pub mod Kinds
 pub mod Steps
 pub mod Layout
 pub mod Trees

@@ -7,7 +7,10 @@ use lib.Dec.{eqb, leb, ltb}
 use lib.ListN.{length, getD, take, drop, replicate}
 use Rattle.sets.specs.Sets.{below, between}
 use Rattle.meaning.specs.Results.{concatMap}
-use Rattle.meaning.specs.Limits.{groupLimit, rowLimit, leastRows, rowWords, codeWords}
+use Rattle.meaning.specs.Limits.{groupLimit, rowLimit, leastRows, rowWords, setWords, codeWords}
+use Rattle.machine.specs.Kinds.{rowsWord, groupsWord, headerZeros, firstWord, secondWord, setWord, listed, lastAssertion}
+use Rattle.machine.specs.Kinds.{acceptKind, consumeKind, jumpKind, forkKind, openKind, closeKind, resetKind, beginKind}
+use Rattle.machine.specs.Kinds.{endKind, assertKind}
 use Rattle.machine.specs.Rows.{Row, Row.accept, Row.consume, Row.jump, Row.fork, Row.opens, Row.closes, Row.reset}
 use Rattle.machine.specs.Rows.{Row.begin, Row.end, Row.assertion}
 use Rattle.machine.specs.Rows.{Program, rowCount, rowAt}
@@ -18,10 +21,10 @@ wordAt code i = getD code i 0
 
 -- The header row's n and g.
 abbrev pub rowsSaid : List ℕ → ℕ
-rowsSaid code = wordAt code 0
+rowsSaid code = wordAt code rowsWord
 
 abbrev pub groupsSaid : List ℕ → ℕ
-groupsSaid code = wordAt code 1
+groupsSaid code = wordAt code groupsWord
 
 -- Where row q begins: behind the header row and q rows.
 abbrev pub rowStart : ℕ → ℕ
@@ -36,8 +39,8 @@ decodeRow kind a b s =
 -- Row q of code: kind, two operands, zero, byte set.
 unfoldable pub rowIn : List ℕ → ℕ → Row
 rowIn code q =
-    decodeRow (wordAt code (rowStart q)) (wordAt code (rowStart q + 1)) (wordAt code (rowStart q + 2))
-    (take 8 (drop (rowStart q + 4) code))
+    decodeRow (wordAt code (rowStart q)) (wordAt code (rowStart q + firstWord)) (wordAt code (rowStart q + secondWord))
+    (take setWords (drop (rowStart q + setWord) code))
 
 -- n rows of code from row q on.
 abbrev pub rowsIn : List ℕ → ℕ → ℕ → List Row
@@ -50,23 +53,23 @@ decode code = record { groups = groupsSaid code; rows = rowsIn code (rowsSaid co
 
 -- A row as words: operands and set words that its kind doesn't use are zero.
 abbrev pub plainWords : ℕ → ℕ → ℕ → List ℕ
-plainWords kind a b = kind ∷ a ∷ b ∷ 0 ∷ replicate 8 0
+plainWords kind a b = kind ∷ a ∷ b ∷ 0 ∷ replicate setWords 0
 
 abbrev pub wordsOf : Row → List ℕ
-wordsOf accept = plainWords 1 0 0
-wordsOf (consume s) = 2 ∷ 0 ∷ 0 ∷ 0 ∷ s
-wordsOf (jump t) = plainWords 3 t 0
-wordsOf (fork t u) = plainWords 4 t u
-wordsOf (opens k) = plainWords 5 k 0
-wordsOf (closes k) = plainWords 6 k 0
-wordsOf (reset l h) = plainWords 7 l h
-wordsOf begin = plainWords 8 0 0
-wordsOf (end t) = plainWords 9 t 0
-wordsOf (assertion a) = plainWords 10 a 0
+wordsOf accept = plainWords acceptKind 0 0
+wordsOf (consume s) = consumeKind ∷ 0 ∷ 0 ∷ 0 ∷ s
+wordsOf (jump t) = plainWords jumpKind t 0
+wordsOf (fork t u) = plainWords forkKind t u
+wordsOf (opens k) = plainWords openKind k 0
+wordsOf (closes k) = plainWords closeKind k 0
+wordsOf (reset l h) = plainWords resetKind l h
+wordsOf begin = plainWords beginKind 0 0
+wordsOf (end t) = plainWords endKind t 0
+wordsOf (assertion a) = plainWords assertKind a 0
 
 -- A program as code: the header row n, g and ten zeros, and its rows.
 unfoldable pub codeOf : Program → List ℕ
-codeOf p = rowCount p ∷ p .groups ∷ (replicate 10 0 ++ concatMap wordsOf (p .rows))
+codeOf p = rowCount p ∷ p .groups ∷ (replicate headerZeros 0 ++ concatMap wordsOf (p .rows))
 
 -- What the check asks of a row of a program of n rows and g groups: targets below n; groups at most g; a Reset has
 -- 1 ≤ lowest ≤ highest ≤ g or is 1, 0; Assert operands 0 to 3.
@@ -80,7 +83,7 @@ rowPasses n g (closes k) = leb k g
 rowPasses n g (reset l h) = (leb 1 l && leb l h && leb h g) || (eqb l 1 && eqb h 0)
 rowPasses n g begin = true
 rowPasses n g (end t) = ltb t n
-rowPasses n g (assertion a) = leb a 3
+rowPasses n g (assertion a) = leb a lastAssertion
 
 -- What it asks of the last row: Accept, Jump, Fork or End.
 abbrev pub mayBeLast : Row → Bool
@@ -113,4 +116,4 @@ headerPasses n g = between leastRows rowLimit n && leb g groupLimit
 unfoldable pub codePasses : List ℕ → Bool
 codePasses code =
     leb (codeWords (rowsSaid code)) (length code) && headerPasses (rowsSaid code) (groupsSaid code)
-    && below (rowsSaid code) (λ q. between 1 10 (wordAt code (rowStart q))) && rowsPass (decode code)
+    && below (rowsSaid code) (λ q. listed (wordAt code (rowStart q))) && rowsPass (decode code)

@@ -9,4 +9,5 @@ pub mod Standard
 pub mod Agrees
 pub mod Bytes
 pub mod Limits
+pub mod Refusals
 pub mod Quoted

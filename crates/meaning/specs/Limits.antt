@@ -13,6 +13,10 @@ tableWords p = 32 * (p + 1)
 abbrev pub countLimit : ℕ
 countLimit = 1000
 
+-- A maximum as a word where there is none: above every count.
+abbrev pub noMaximum : ℕ
+noMaximum = countLimit + 1
+
 -- The deepest parentheses (refusal 13).
 abbrev pub depthLimit : ℕ
 depthLimit = 32
@@ -28,9 +32,12 @@ rowLimit = 1024
 abbrev pub leastRows : ℕ
 leastRows = 8
 
--- The words of a row, and those that code of n rows needs with its header row (refusals 16 and 20).
+-- The words of a row and of a byte set, and those that code of n rows needs with its header row (refusals 16 and 20).
 abbrev pub rowWords : ℕ
 rowWords = 12
+
+abbrev pub setWords : ℕ
+setWords = 8
 
 abbrev pub codeWords : ℕ → ℕ
 codeWords n = rowWords * (n + 1)
@@ -38,6 +45,10 @@ codeWords n = rowWords * (n + 1)
 -- The longest text, in bytes (refusal 21).
 abbrev pub textLimit : ℕ
 textLimit = 1048576
+
+-- A register's word is a position below this number, and -1 from it on.
+abbrev pub positionLimit : ℕ
+positionLimit = 2147483648
 
 -- The workspace words that a run of n rows and g groups needs (refusal 24).
 abbrev pub workspaceWords : ℕ → ℕ → ℕ

@@ -9,13 +9,6 @@ ghost use Rattle.millkettle.specs.Finding.{findingOf, Finds};
 use compiler::Compilation;
 use engine::Answer;
 
-// The buffers of the intake program and of the host: words of table, code and workspace.
-pub const TABLE_WORDS: usize = 4128;
-
-pub const CODE_WORDS: usize = 1164;
-
-pub const WORKSPACE_WORDS: usize = 8000;
-
 // What `find` answers: found or none with the count of rows executed, or the number and the place of a refusal.
 pub enum Finding {
     Found(u64),

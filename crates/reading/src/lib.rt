@@ -1,7 +1,11 @@
 // From a pattern's bytes to a table of its records, or to the outline's refusal: readers of alternatives, of sequences and of
 // atoms call one another in a cycle.
-mod refusals;
 
+use meaning::limits::PATTERN_LIMIT;
+use meaning::refusals::HIGH_BYTE;
+use meaning::refusals::LONG_PATTERN;
+use meaning::refusals::SMALL_TABLE;
+use meaning::refusals::UNMATCHED;
 use reading_atoms::byte_at;
 use reading_items::Got;
 use reading_items::Opening;
@@ -13,11 +17,8 @@ use reading_items::joined;
 use reading_items::opening_at;
 use reading_items::single;
 use reading_items::splice;
-use refusals::HIGH_BYTE;
-use refusals::LONG_PATTERN;
-use refusals::SMALL_TABLE;
-use refusals::UNMATCHED;
 use table::ALTERNATION;
+use table::RECORD_WORDS;
 use table::SEQUENCE;
 ghost use mathlib.Core.Path.{_≡_};
 ghost use mathlib.Core.Bool.{false};
@@ -29,9 +30,6 @@ ghost use Rattle.reading_atoms.specs.Chars.{byteAt, endsSequence};
 ghost use Rattle.reading_items.specs.Reading.{itemAt, sequenceAt, alternativesAt};
 ghost use Rattle.reading_items.specs.Meets.{Fine, Leaves};
 ghost use Rattle.reading.specs.Answers.{Reads, Checked};
-
-// The longest pattern.
-const PATTERN_LIMIT: usize = 2048;
 
 // What a pattern's reading answers.
 pub enum Reading {
@@ -161,7 +159,7 @@ fn whole(pattern: &[u8], table: &mut [u32]) -> Reading
                     place: at,
                 };
             }
-            clear(table, 16 * top);
+            clear(table, RECORD_WORDS * top);
             Reading::Pattern {
                 records: top,
                 groups,

@@ -4,7 +4,7 @@ use mathlib.Core.Bool.{cond}
 use mathlib.Core.Option.{none, some}
 use Prim.Native.Nat.{ℕ, _+_, _-_, _≤_, min}
 use lib.Dec.{eqb}
-use Rattle.meaning.specs.Limits.{countLimit}
+use Rattle.meaning.specs.Limits.{noMaximum}
 use Rattle.reading_atoms.specs.Escapes as escapes
 use Rattle.reading_atoms.specs.Classes as classes
 use Rattle.reading_atoms.specs.Braces as braces
@@ -35,10 +35,6 @@ atomOf (Bad number place) = classes.ClassAtom.bad number place
 -- A class: where it is closed a set and the place behind it, and where not a refusal's number and place.
 abbrev pub classOf : Class → classes.Class
 classOf r = cond (r .closed) (classes.Class.holds (r .set) (r .end)) (classes.Class.broken (r .number) (r .place))
-
--- What stands for no maximum, above every count.
-abbrev pub noMaximum : ℕ
-noMaximum = countLimit + 1
 
 -- A number that the code holds at the cap.
 pub record Capped (r : Number) (n : braces.Number) : Type 0 where

@@ -9,13 +9,13 @@ use lib.Dec.{eqb, ltb}
 use lib.ListN.{length}
 use borrow.Author.Tests.{eqb-true, ltb-true, ltb-false, lt-ltb, ne-eqb}
 use Rattle.sets.specs.Sets.{isDigit}
-use Rattle.meaning.specs.Limits.{countLimit}
+use Rattle.meaning.specs.Limits.{countLimit, noMaximum}
 use Rattle.reading_atoms.specs.Chars.{byteAt, choose, star, plus, question, openBrace, closeBrace, comma}
 use Rattle.reading_atoms.specs.Braces.{Braces, Braces.counts, Braces.refused, Number, numberGo, numberAt}
 use Rattle.reading_atoms.specs.Braces.{judged, unlimited, afterComma, bracesAt}
 use Rattle.reading_atoms.specs.Braces.{Quantifier, Quantifier.once, Quantifier.repeated, Quantifier.miscounted}
 use Rattle.reading_atoms.specs.Braces.{lazily, quantifierAt}
-use Rattle.reading_atoms.specs.Answers.{noMaximum, countsOf}
+use Rattle.reading_atoms.specs.Answers.{countsOf}
 use Rattle.reading_atoms.specs.Places.{by-cond, byte-passes, both, neither, digit-none}
 
 -- What a count answers.

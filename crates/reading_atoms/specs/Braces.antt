@@ -6,6 +6,7 @@ use Prim.Native.Nat.{ℕ, zero, suc, _+_, _-_, _*_}
 use lib.Dec.{eqb, ltb}
 use lib.ListN.{length}
 use Rattle.sets.specs.Sets.{isDigit}
+use Rattle.meaning.specs.Refusals as No
 use Rattle.meaning.specs.Limits.{countLimit}
 use Rattle.reading_atoms.specs.Chars.{byteAt, choose, star, plus, question, openBrace, closeBrace, comma}
 
@@ -32,17 +33,17 @@ numberAt s at = numberGo s (length s) 0 at
 -- Two counts: 8 for one above the limit, 9 for a minimum above the maximum.
 abbrev pub judged : ℕ → ℕ → ℕ → Braces
 judged min max end =
-    cond (ltb countLimit min || ltb countLimit max) (refused 8) (cond (ltb max min) (refused 9) (counts min (some max) end))
+    cond (ltb countLimit min || ltb countLimit max) (refused No.highCount) (cond (ltb max min) (refused No.reversedCounts) (counts min (some max) end))
 
 abbrev pub unlimited : ℕ → ℕ → Braces
-unlimited min end = cond (ltb countLimit min) (refused 8) (counts min none end)
+unlimited min end = cond (ltb countLimit min) (refused No.highCount) (counts min none end)
 
 -- Behind the comma: `}`, or a number and `}`.
 abbrev pub afterComma : List ℕ → ℕ → ℕ → Braces
 afterComma s min at =
     let m : Number = numberAt s at in
     cond (eqb (byteAt s at) closeBrace) (unlimited min (at + 1))
-    (cond (isDigit (byteAt s at) && eqb (byteAt s (m .end)) closeBrace) (judged min (m .value) (m .end + 1)) (refused 7))
+    (cond (isDigit (byteAt s at) && eqb (byteAt s (m .end)) closeBrace) (judged min (m .value) (m .end + 1)) (refused No.badBraces))
 
 -- The counts whose `{` stands at a place: 7 if it is not one of the three forms.
 unfoldable pub bracesAt : List ℕ → ℕ → Braces
@@ -50,8 +51,8 @@ bracesAt s at =
     let n : Number = numberAt s (at + 1) in
     cond (isDigit (byteAt s (at + 1)))
     (cond (eqb (byteAt s (n .end)) closeBrace) (judged (n .value) (n .value) (n .end + 1))
-    (cond (eqb (byteAt s (n .end)) comma) (afterComma s (n .value) (n .end + 1)) (refused 7)))
-    (refused 7)
+    (cond (eqb (byteAt s (n .end)) comma) (afterComma s (n .value) (n .end + 1)) (refused No.badBraces)))
+    (refused No.badBraces)
 
 -- What stands behind an atom: no quantifier; one, with its counts, its laziness and the place behind it; or a refusal at its
 -- `{`.

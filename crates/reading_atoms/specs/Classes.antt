@@ -5,6 +5,7 @@ use Prim.Native.Nat.{ℕ, zero, suc, _+_}
 use lib.Dec.{eqb, leb}
 use lib.ListN.{length}
 use Rattle.sets.specs.Sets.{has, setOf, between, inEscape}
+use Rattle.meaning.specs.Refusals as No
 use Rattle.reading_atoms.specs.Chars.{noByte, byteAt, choose, backslash, caret, closeBracket, hyphen}
 use Rattle.reading_atoms.specs.Escapes.{Escape, Escape.byte, Escape.named, Escape.assertion, Escape.wrong, escapeAt}
 
@@ -39,11 +40,11 @@ takes b x = eqb x b
 
 -- A range whose first byte stands at `from`, once both ends are read: 10 if it is reversed or has a set as an end.
 abbrev pub ranged : List ℕ → ℕ → ClassAtom → ClassAtom → Class
-ranged held from (one a _) (one b end) = cond (leb a b) (holds (added held (between a b)) end) (broken 10 from)
-ranged held from (one a _) (several k end) = broken 10 from
+ranged held from (one a _) (one b end) = cond (leb a b) (holds (added held (between a b)) end) (broken No.badClass from)
+ranged held from (one a _) (several k end) = broken No.badClass from
 ranged held from (one a _) (bad number place) = broken number place
-ranged held from (several j _) (one b end) = broken 10 from
-ranged held from (several j _) (several k end) = broken 10 from
+ranged held from (several j _) (one b end) = broken No.badClass from
+ranged held from (several j _) (several k end) = broken No.badClass from
 ranged held from (several j _) (bad number place) = broken number place
 ranged held from (bad number place) last = broken number place
 
@@ -72,9 +73,9 @@ further (broken number place) go = broken number place
 
 -- The atoms of a class up to its `]`; 10 at the end of the pattern where it is unclosed.
 unfoldable pub classGo : List ℕ → Bool → ℕ → List ℕ → ℕ → Class
-classGo s negated zero held at = broken 10 at
+classGo s negated zero held at = broken No.badClass at
 classGo s negated (suc fuel) held at =
-    choose (eqb (byteAt s at) noByte) (λ _. broken 10 at) (λ _.
+    choose (eqb (byteAt s at) noByte) (λ _. broken No.badClass at) (λ _.
     choose (eqb (byteAt s at) closeBracket) (λ _. holds (classSet negated held) (at + 1)) (λ _.
     further (classItem s held at (classAtom s at)) (λ held′ at′. classGo s negated fuel held′ at′)))
 

@@ -4,6 +4,7 @@ use mathlib.Core.List.{List}
 use Prim.Native.Nat.{ℕ, _+_, _*_, _%_}
 use lib.Dec.{eqb}
 use Rattle.sets.specs.Sets.{isDigit, isWord}
+use Rattle.meaning.specs.Refusals as No
 use Rattle.reading_atoms.specs.Chars.{noByte, byteAt, isLetter, isHex, hexValue}
 
 -- What an escape says: a byte, with the place behind it; a set, by its number; an assertion, by its number; or a refusal.
@@ -34,23 +35,23 @@ setNumber b =
 
 -- `\c` and a letter: the letter mod 32.
 abbrev pub letterEscape : List ℕ → ℕ → Escape
-letterEscape s at = cond (isLetter (byteAt s (at + 2))) (byte (byteAt s (at + 2) % 32) (at + 3)) (wrong 4)
+letterEscape s at = cond (isLetter (byteAt s (at + 2))) (byte (byteAt s (at + 2) % 32) (at + 3)) (wrong No.badEscape)
 
 -- `\x` and two hex digits.
 abbrev pub hexEscape : List ℕ → ℕ → Escape
 hexEscape s at =
     cond (isHex (byteAt s (at + 2)) && isHex (byteAt s (at + 3)))
-    (byte (hexValue (byteAt s (at + 2)) * 16 + hexValue (byteAt s (at + 3))) (at + 4)) (wrong 4)
+    (byte (hexValue (byteAt s (at + 2)) * 16 + hexValue (byteAt s (at + 3))) (at + 4)) (wrong No.badEscape)
 
 -- `\0` before no digit.
 abbrev pub zeroEscape : List ℕ → ℕ → Escape
-zeroEscape s at = cond (isDigit (byteAt s (at + 2))) (wrong 4) (byte 0 (at + 2))
+zeroEscape s at = cond (isDigit (byteAt s (at + 2))) (wrong No.badEscape) (byte 0 (at + 2))
 
 -- What is not listed: outside a class `\1` to `\9` and `\k` are left out; any other letter, digit or `_` is wrong; the rest is
 -- itself.
 abbrev pub otherEscape : Bool → ℕ → ℕ → Escape
 otherEscape inClass b end =
-    cond (isDigit b || eqb b 0x6B) (wrong (cond inClass 4 5)) (cond (isWord b || eqb b noByte) (wrong 4) (byte b end))
+    cond (isDigit b || eqb b 0x6B) (wrong (cond inClass No.badEscape No.leftOut)) (cond (isWord b || eqb b noByte) (wrong No.badEscape) (byte b end))
 
 -- The escape whose `\` stands at a place: a listed one; 5 for `\u` anywhere and outside a class for `\1` to `\9` and `\k`; 4
 -- for any other letter, digit or `_`, and for `\` at the end; any other byte is itself. `\b` is 08 in a class and `\B` is not
@@ -64,8 +65,8 @@ escapeAt inClass s at =
     (cond (eqb b 0x78) (hexEscape s at)
     (cond (eqb b 0x30) (zeroEscape s at)
     (cond (eqb b 0x62) (cond inClass (byte 0x08 (at + 2)) (assertion 2))
-    (cond (eqb b 0x42) (cond inClass (wrong 4) (assertion 3))
-    (cond (eqb b 0x75) (wrong 5)
+    (cond (eqb b 0x42) (cond inClass (wrong No.badEscape) (assertion 3))
+    (cond (eqb b 0x75) (wrong No.leftOut)
     (otherEscape inClass b (at + 2))))))))
     (byte (control b) (at + 2)))
     (named (setNumber b))

@@ -7,20 +7,17 @@ use crate::chars::QUESTION;
 use crate::chars::STAR;
 use crate::chars::byte_at;
 use crate::chars::is_digit;
-use crate::refusals::BAD_BRACES;
-use crate::refusals::HIGH_COUNT;
-use crate::refusals::REVERSED_COUNTS;
+use meaning::limits::COUNT_LIMIT;
+use meaning::limits::NO_MAXIMUM;
+use meaning::refusals::BAD_BRACES;
+use meaning::refusals::HIGH_COUNT;
+use meaning::refusals::REVERSED_COUNTS;
 ghost use mathlib.Core.Path.{_≡_};
 ghost use Prim.Native.Nat.{ℕ, _<_, _≤_, min};
 ghost use lib.ListN.{length};
 ghost use Rattle.reading_atoms.specs.Braces.{numberAt, judged, unlimited, afterComma, bracesAt, lazily, quantifierAt};
-ghost use Rattle.reading_atoms.specs.Answers.{noMaximum, Capped, bracesOf, numberOf, countsOf, QuantifierIs};
-
-// The highest count.
-const COUNT_LIMIT: u32 = 1000;
-
-// What stands for no maximum, above every count.
-pub const NO_MAXIMUM: u32 = COUNT_LIMIT + 1;
+ghost use Rattle.meaning.specs.Limits.{noMaximum};
+ghost use Rattle.reading_atoms.specs.Answers.{Capped, bracesOf, numberOf, countsOf, QuantifierIs};
 
 // A count is taken apart into its two numbers and the place behind it, or refused by a number.
 pub enum Braces {

@@ -2,9 +2,7 @@
 ghost use mathlib.Core.Path.{_≡_};
 ghost use Rattle.sets.specs.Sets.{between, isDigit, isWord};
 ghost use Rattle.reading_atoms.specs.Chars.{byteAt, isLetter, isHex, hexValue};
-
-// What stands past the end of a pattern: no byte.
-pub const NO_BYTE: u32 = 256;
+use meaning::limits::NO_BYTE;
 
 // The bytes that the readers look for.
 pub const STAR: u32 = b'*' as u32;

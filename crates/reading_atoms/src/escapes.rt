@@ -1,13 +1,13 @@
 // Escapes: `\` and what follows it, outside a class and inside one.
-use crate::chars::NO_BYTE;
 use crate::chars::byte_at;
 use crate::chars::hex_value;
 use crate::chars::is_digit;
 use crate::chars::is_hex;
 use crate::chars::is_letter;
 use crate::chars::is_word;
-use crate::refusals::BAD_ESCAPE;
-use crate::refusals::LEFT_OUT;
+use meaning::limits::NO_BYTE;
+use meaning::refusals::BAD_ESCAPE;
+use meaning::refusals::LEFT_OUT;
 ghost use mathlib.Core.Path.{_≡_};
 ghost use mathlib.Core.Bool.{_||_};
 ghost use Prim.Native.Nat.{_<_};

@@ -4,10 +4,8 @@ mod byte_sets;
 mod chars;
 mod classes;
 mod escapes;
-mod refusals;
 
 pub use braces::Braces;
-pub use braces::NO_MAXIMUM;
 pub use braces::Quantifier;
 pub use braces::braces_at;
 pub use braces::quantifier_at;
@@ -15,7 +13,6 @@ pub use byte_sets::class_set;
 pub use byte_sets::dot_set;
 pub use byte_sets::literal_set;
 pub use byte_sets::named_set;
-pub use chars::NO_BYTE;
 pub use chars::byte_at;
 pub use classes::Class;
 pub use classes::class_at;

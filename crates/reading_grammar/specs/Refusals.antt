@@ -8,6 +8,7 @@ use mathlib.Core.List.{List, [], _∷_, _++_}
 use Prim.Native.Nat.{ℕ, zero, suc, _+_, _≤_, _<_}
 use lib.ListN.{length, take, getD}
 use Rattle.sets.specs.Sets.{isDigit}
+use Rattle.meaning.specs.Refusals as No
 use Rattle.meaning.specs.Limits.{patternLimit, tableWords, countLimit, depthLimit, groupLimit}
 use Rattle.meaning.specs.Node.{Node}
 use Rattle.reading_atoms.specs.Chars.{byteAt, caret, backslash, question, openParen, closeParen, openBracket, closeBracket}
@@ -76,8 +77,8 @@ pub data LeftOut (s : List ℕ) (inClass : Bool) (a : ℕ) : Type 0 where
   name : inClass ≡ false → Is s (a + 1) 0x6B → LeftOut s inClass a
 
 pub data WrongEscape (s : List ℕ) (inClass : Bool) (a : ℕ) : ℕ → Type 0 where
-  unknown : Is s a backslash → (Listed s inClass a → ⊥) → (LeftOut s inClass a → ⊥) → WrongEscape s inClass a 4
-  leftOut : Is s a backslash → LeftOut s inClass a → WrongEscape s inClass a 5
+  unknown : Is s a backslash → (Listed s inClass a → ⊥) → (LeftOut s inClass a → ⊥) → WrongEscape s inClass a No.badEscape
+  leftOut : Is s a backslash → LeftOut s inClass a → WrongEscape s inClass a No.leftOut
 
 -- One of the three forms, up to the place behind it, whatever its counts.
 pub data Form (s : List ℕ) : ℕ → ℕ → ℕ → Option ℕ → Type 0 where
@@ -104,9 +105,9 @@ pub record AtomBefore (s : List ℕ) (b : ℕ) : Type 0 where
 
 -- The checks 1 to 3, by number and place: over 2,048 bytes; a table under 32(p+1) words; the first byte above 7F.
 pub data Checks (s : List ℕ) (table : ℕ) : ℕ → ℕ → Type 0 where
-  long : patternLimit < length s → Checks s table 1 0
-  small : table < tableWords (length s) → Checks s table 2 0
-  high : {a : ℕ} → a < length s → 0x7F < getD s a 0 → ((i : ℕ) → i < a → getD s i 0 ≤ 0x7F) → Checks s table 3 a
+  long : patternLimit < length s → Checks s table No.longPattern 0
+  small : table < tableWords (length s) → Checks s table No.smallTable 0
+  high : {a : ℕ} → a < length s → 0x7F < getD s a 0 → ((i : ℕ) → i < a → getD s i 0 ≤ 0x7F) → Checks s table No.highByte a
 
 -- The refusals 4 to 14, by number and place. More than one may hold, at one place (`same-place`).
 pub data Refuses (s : List ℕ) : ℕ → ℕ → Type 0 where
@@ -115,27 +116,27 @@ pub data Refuses (s : List ℕ) : ℕ → ℕ → Type 0 where
   classEscape : {a n : ℕ} → ClassDue s a → WrongEscape s true a n → Refuses s n a
   rangeEscape : {a b n : ℕ} {x : Option ℕ} → ClassDue s a → End s a b x → Dash s b → WrongEscape s true (b + 1) n
       → Refuses s n (b + 1)
-  look : {d a g : ℕ} → Due s d a g → Is s a openParen → Is s (a + 1) question → isLook (byteAt s (a + 2)) ≡ true → Refuses s 5 a
+  look : {d a g : ℕ} → Due s d a g → Is s a openParen → Is s (a + 1) question → isLook (byteAt s (a + 2)) ≡ true → Refuses s No.leftOut a
   -- 6: a quantifier with no atom to repeat, and a ? after ( .
-  nothing : {d a g : ℕ} → Due s d a g → isQuantifier (byteAt s a) ≡ true → Refuses s 6 a
+  nothing : {d a g : ℕ} → Due s d a g → isQuantifier (byteAt s a) ≡ true → Refuses s No.noAtom a
   oddGroup : {d a g : ℕ} → Due s (suc d) a g → Is s a openParen → Is s (a + 1) question → (Is s (a + 2) colon → ⊥)
-      → isLook (byteAt s (a + 2)) ≡ false → Refuses s 6 (a + 1)
+      → isLook (byteAt s (a + 2)) ≡ false → Refuses s No.noAtom (a + 1)
   -- 7, 8 and 9: counts.
-  noForm : {b : ℕ} → AtomBefore s b → Is s b openBrace → ((e n : ℕ) (m : Option ℕ) → Form s b e n m → ⊥) → Refuses s 7 b
-  above : {b e n : ℕ} {m : Option ℕ} → AtomBefore s b → Form s b e n m → Above n m → Refuses s 8 b
-  disordered : {b e n m : ℕ} → AtomBefore s b → Form s b e n (some m) → m < n → Refuses s 9 b
+  noForm : {b : ℕ} → AtomBefore s b → Is s b openBrace → ((e n : ℕ) (m : Option ℕ) → Form s b e n m → ⊥) → Refuses s No.badBraces b
+  above : {b e n : ℕ} {m : Option ℕ} → AtomBefore s b → Form s b e n m → Above n m → Refuses s No.highCount b
+  disordered : {b e n m : ℕ} → AtomBefore s b → Form s b e n (some m) → m < n → Refuses s No.reversedCounts b
   -- 10: a range reversed or with a set as an end; a class unclosed.
   badRange : {a b e : ℕ} {x y : Option ℕ} → ClassDue s a → End s a b x → Dash s b → End s (b + 1) e y → BadRange x y
-      → Refuses s 10 a
-  unclosedClass : {a : ℕ} → ClassDue s a → a ≡ length s → Refuses s 10 a
+      → Refuses s No.badClass a
+  unclosedClass : {a : ℕ} → ClassDue s a → a ≡ length s → Refuses s No.badClass a
   -- 11: ) unmatched, ( unclosed.
-  unmatched : {a g : ℕ} → Due s depthLimit a g → Is s a closeParen → Refuses s 11 a
-  unclosed : {a : ℕ} → Inside s a → a ≡ length s → Refuses s 11 a
+  unmatched : {a g : ℕ} → Due s depthLimit a g → Is s a closeParen → Refuses s No.unmatched a
+  unclosed : {a : ℕ} → Inside s a → a ≡ length s → Refuses s No.unmatched a
   -- 12: a stray ] or }.
-  stray : {d a g : ℕ} → Due s d a g → Is s a closeBracket ⊎ Is s a closeBrace → Refuses s 12 a
+  stray : {d a g : ℕ} → Due s d a g → Is s a closeBracket ⊎ Is s a closeBrace → Refuses s No.stray a
   -- 13: parentheses deeper than 32. 14: a 16th group.
-  deep : {a g : ℕ} → Due s zero a g → Is s a openParen → Refuses s 13 a
-  full : {d a g : ℕ} → Due s d a g → Is s a openParen → (Is s (a + 1) question → ⊥) → groupLimit ≤ g → Refuses s 14 a
+  deep : {a g : ℕ} → Due s zero a g → Is s a openParen → Refuses s No.tooDeep a
+  full : {d a g : ℕ} → Due s d a g → Is s a openParen → (Is s (a + 1) question → ⊥) → groupLimit ≤ g → Refuses s No.manyGroups a
 
 -- The smallest place wins, then the smaller number.
 abbrev pub Before : ℕ → ℕ → ℕ → ℕ → Type 0

@@ -10,11 +10,11 @@ use mir.Val.{boolByte}
 use lib.ListN.{length, take, getD, replicate}
 use borrow.Author.Tests.{eqb-true, eqb-false, eq-eqb, ne-eqb}
 use Rattle.sets.specs.Sets.{Formed}
-use Rattle.meaning.specs.Limits.{patternLimit, tableWords, countLimit}
+use Rattle.meaning.specs.Limits.{patternLimit, tableWords, countLimit, noMaximum}
 use Rattle.meaning.specs.Node.{Node, Node.empty, Node.bset, Node.assert, Node.group, Node.many, Proper}
 use Rattle.meaning.specs.Flat.{Kind, Kind.sequence, Kind.alternation, Not, parts, link, join}
 use Rattle.meaning.specs.Results.{concatMap}
-use Rattle.table.specs.Table.{recordWords, noMaximum, maximum, bitOf, recordCount, records}
+use Rattle.table.specs.Table.{recordWords, maximum, bitOf, recordCount, records}
 use Rattle.table.specs.Laws.{Each, inner, inner-link, kindOf, operandOf, lastOf}
 use Rattle.table.specs.Derived.{recordLimit, Limited}
 use Rattle.table.specs.Stands.{Stands, Row, Made, SomeMade, Putting, Puts}

@@ -7,6 +7,7 @@ use Prim.Native.Nat.{ℕ, zero, suc, _+_, _-_, _*_}
 use lib.Dec.{eqb, leb, ltb}
 use lib.ListN.{length, replicate}
 use Rattle.sets.specs.Sets.{setOf, isDot, inEscape}
+use Rattle.meaning.specs.Refusals as No
 use Rattle.meaning.specs.Limits.{patternLimit, tableWords, depthLimit, groupLimit}
 use Rattle.meaning.specs.Node.{Node, Node.empty, Node.bset, Node.assert, Node.group, Node.many}
 use Rattle.meaning.specs.Flat.{Kind.sequence, Kind.alternation, parts, join}
@@ -65,24 +66,24 @@ isLook b = eqb b 0x3D || eqb b 0x21 || eqb b 0x3C
 unfoldable pub openingAt : List ℕ → ℕ → Opening
 openingAt s at =
     cond (eqb (byteAt s (at + 1)) question)
-    (cond (eqb (byteAt s (at + 2)) colon) plain (cond (isLook (byteAt s (at + 2))) (neither 5 at) (neither 6 (at + 1))))
+    (cond (eqb (byteAt s (at + 2)) colon) plain (cond (isLook (byteAt s (at + 2))) (neither No.leftOut at) (neither No.noAtom (at + 1))))
     capturing
 
 -- At the deepest level nothing opens: 13 at the `(`, but 5 where its number is smaller.
 abbrev pub tooDeep : ℕ → Opening → Part
-tooDeep at capturing = turned 13 at
-tooDeep at plain = turned 13 at
-tooDeep at (neither number place) = cond (eqb place at) (turned number at) (turned 13 at)
+tooDeep at capturing = turned No.tooDeep at
+tooDeep at plain = turned No.tooDeep at
+tooDeep at (neither number place) = cond (eqb place at) (turned number at) (turned No.tooDeep at)
 
 -- Behind what a `(` opened: its `)` and its quantifier, or 11 at the end.
 abbrev pub closed : List ℕ → Node → ℕ → ℕ → Part
 closed s r at g =
-    cond (eqb (byteAt s at) closeParen) (quantified (quantifierAt s (at + 1)) r (at + 1) g) (turned 11 at)
+    cond (eqb (byteAt s at) closeParen) (quantified (quantifierAt s (at + 1)) r (at + 1) g) (turned No.unmatched at)
 
 -- What a `(` opens, where `inside` reads alternatives: 14 for a group above the limit.
 abbrev pub opened : List ℕ → (ℕ → ℕ → Part) → ℕ → ℕ → Opening → Part
 opened s inside at g capturing =
-    choose (leb groupLimit g) (λ _. turned 14 at)
+    choose (leb groupLimit g) (λ _. turned No.manyGroups at)
     (λ _. andThen (inside (at + 1) (g + 1)) (λ r end g′. closed s (group (g + 1) r) end g′))
 opened s inside at g plain = andThen (inside (at + 3) g) (λ r end g′. closed s r end g′)
 opened s inside at g (neither number place) = turned number place
@@ -98,8 +99,8 @@ itemBy paren s at g =
     choose (eqb b dot) (λ _. setItem s dotSet (at + 1) g) (λ _.
     choose (eqb b caret) (λ _. part (assert 0) (at + 1) g) (λ _.
     choose (eqb b dollar) (λ _. part (assert 1) (at + 1) g) (λ _.
-    choose (isQuantifier b) (λ _. turned 6 at) (λ _.
-    choose (eqb b closeBracket || eqb b closeBrace) (λ _. turned 12 at) (λ _.
+    choose (isQuantifier b) (λ _. turned No.noAtom at) (λ _.
+    choose (eqb b closeBracket || eqb b closeBrace) (λ _. turned No.stray at) (λ _.
     setItem s (literalSet b) (at + 1) g))))))))
 
 -- Items up to the end of a sequence; a sequence in a sequence gives its items.
@@ -140,7 +141,7 @@ pub data Reading : Type 0 where
 
 -- A whole pattern ends at its end; what is left begins with an unmatched `)`.
 abbrev pub whole : List ℕ → Part → Reading
-whole s (part r at g) = cond (ltb at (length s)) (refused 11 at) (pattern r g)
+whole s (part r at g) = cond (ltb at (length s)) (refused No.unmatched at) (pattern r g)
 whole s (turned number place) = refused number place
 
 -- The place of the first byte above 7F, or the pattern's length.
@@ -154,15 +155,15 @@ firstHigh s = highGo s 0
 -- The reading of a pattern with a table of so many words: checks 1 to 3 first, in order.
 unfoldable pub reading : List ℕ → ℕ → Reading
 reading s table =
-    choose (ltb patternLimit (length s)) (λ _. refused 1 0) (λ _.
-    choose (ltb table (tableWords (length s))) (λ _. refused 2 0) (λ _.
-    choose (ltb (firstHigh s) (length s)) (λ _. refused 3 (firstHigh s)) (λ _.
+    choose (ltb patternLimit (length s)) (λ _. refused No.longPattern 0) (λ _.
+    choose (ltb table (tableWords (length s))) (λ _. refused No.smallTable 0) (λ _.
+    choose (ltb (firstHigh s) (length s)) (λ _. refused No.highByte (firstHigh s)) (λ _.
     whole s (alternativesAt depthLimit s 0 0))))
 
 -- The table after a reading: the records and zeros behind them; unchanged for 1 to 3, all zero for any other refusal.
 abbrev pub tableBy : Reading → List ℕ → List ℕ
 tableBy (pattern r g) table = records r ++ replicate (length table - recordWords * recordCount r) 0
-tableBy (refused number place) table = cond (leb number 3) table (replicate (length table) 0)
+tableBy (refused number place) table = cond (leb number No.highByte) table (replicate (length table) 0)
 
 unfoldable pub tableAfter : List ℕ → List ℕ → List ℕ
 tableAfter s table = tableBy (reading s (length table)) table

@@ -1,9 +1,9 @@
 // Atoms that hold no other part, each with its quantifier, and assertions.
 use crate::parts::Got;
 use crate::parts::quantified;
-use crate::refusals::NO_ATOM;
-use crate::refusals::STRAY;
 use crate::words::is_quantifier;
+use meaning::refusals::NO_ATOM;
+use meaning::refusals::STRAY;
 use reading_atoms::Escape;
 use reading_atoms::class_at;
 use reading_atoms::dot_set;

@@ -3,7 +3,6 @@
 mod leaves;
 mod openings;
 mod parts;
-mod refusals;
 mod series;
 mod words;
 

@@ -1,8 +1,10 @@
 // What a `(` opens.
-use crate::refusals::LEFT_OUT;
-use crate::refusals::NO_ATOM;
-use crate::refusals::TOO_DEEP;
-use crate::refusals::TOO_MANY_GROUPS;
+use meaning::limits::DEPTH_LIMIT;
+use meaning::limits::GROUP_LIMIT;
+use meaning::refusals::LEFT_OUT;
+use meaning::refusals::MANY_GROUPS;
+use meaning::refusals::NO_ATOM;
+use meaning::refusals::TOO_DEEP;
 use reading_atoms::byte_at;
 ghost use mathlib.Core.Path.{_≡_};
 ghost use Prim.Native.Nat.{_+_, _≤_, _<_};
@@ -11,11 +13,6 @@ ghost use Rattle.meaning.specs.Limits.{patternLimit, depthLimit, groupLimit};
 ghost use Rattle.reading_atoms.specs.Chars.{byteAt, openParen, question};
 ghost use Rattle.reading_items.specs.Reading.{isLook};
 ghost use Rattle.reading_items.specs.Meets.{Opens, OpensAt};
-
-// The deepest parentheses, and the most groups.
-const DEPTH_LIMIT: u32 = 32;
-
-const GROUP_LIMIT: u32 = 15;
 
 // Alternatives from a place on, a group's number or 0 for `(?:`, and the groups so far; or a refusal.
 pub enum Opening {
@@ -91,7 +88,7 @@ pub fn opening_at(s: &[u8], at: usize, depth: u32, groups: u32) -> Opening
     }
     if GROUP_LIMIT <= groups {
         return Opening::Refused {
-            number: TOO_MANY_GROUPS,
+            number: MANY_GROUPS,
             place: at,
         };
     }

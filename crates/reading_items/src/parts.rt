@@ -1,5 +1,5 @@
 // What a reader answers, and what stands behind a part: its quantifier, or the `)` of what a `(` opened.
-use crate::refusals::UNMATCHED;
+use meaning::refusals::UNMATCHED;
 use reading_atoms::Quantifier;
 use reading_atoms::byte_at;
 use reading_atoms::quantifier_at;

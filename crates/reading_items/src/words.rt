@@ -1,5 +1,5 @@
 // The bytes of a pattern and the words of a table, one by one.
-use reading_atoms::NO_BYTE;
+use meaning::limits::NO_BYTE;
 use reading_atoms::byte_at;
 ghost use mathlib.Core.Path.{_≡_};
 ghost use mathlib.Core.List.{_++_};

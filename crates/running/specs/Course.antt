@@ -7,6 +7,7 @@ use Prim.Native.Nat.{ℕ, zero, suc, _+_, _*_, _-_, _<_, _≤_}
 use native.Mathlib.Nat.{mul-le-mul, not-suc-le-zero}
 use native.Mathlib.Omega.{arith}
 use lib.ListN.{length, getD, replicate}
+use Rattle.meaning.specs.Limits.{positionLimit}
 use Rattle.meaning.specs.Text.{Regs, unset, registersOf}
 use Rattle.meaning.specs.Bytes.{textOf}
 use Rattle.meaning.specs.Reach.{All}
@@ -188,7 +189,7 @@ module _ {code text : List ℕ} {start row : ℕ} {l : Plan} {s₀ s t : List �
     turn-over (suc m) k r v ks b c p h = let z : suc p ≡ p + 1 = omega arith in
         ap (λ (j : ℕ). machine j (held t k r v (suc m)) [] [] b c) z
 
-    pub course-next : {sp′ : Spot} → Ready code → start ≤ length text → row < rowsSaid code → length text + 2 < 2147483648
+    pub course-next : {sp′ : Spot} → Ready code → start ≤ length text → row < rowsSaid code → length text + 2 < positionLimit
         → 0 < o .queued
         → SpotAt text (sp .position + 1) (sp .queue) (sp .stored) (o .queued) (sp .active) (sp .registers) sp′
         → Course code text start row l s₀ t sp′ f (executed + o .ran)
@@ -269,5 +270,5 @@ ran-from y plan a =
     }
 
 -- a count of a run fits
-pub small-count : (n k c : ℕ) → n ≤ 1024 → k ≤ 2147483648 → c ≤ 2 * n * k → c < 18446744073709551616
+pub small-count : (n k c : ℕ) → n ≤ 1024 → k ≤ positionLimit → c ≤ 2 * n * k → c < 18446744073709551616
 small-count n k c a b h = let d : 2 * n ≤ 2048 = omega arith in omega (arith, mul-le-mul d b)

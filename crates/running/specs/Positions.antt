@@ -10,7 +10,7 @@ use borrow.Author.Tests.{lt-ltb}
 use lib.ListN.{length, getD, set, replicate, getElem?, length-set, getD-replicate}
 use lib.Seq.{getD-set-same, getD-set-other}
 use Rattle.meaning.specs.Text.{byteBefore, byteAfter}
-use Rattle.meaning.specs.Limits.{workspaceWords}
+use Rattle.meaning.specs.Limits.{positionLimit, workspaceWords}
 use Rattle.machine.specs.Steps.{best}
 use Rattle.machine.specs.Steps.{run}
 use Rattle.machine.specs.Words.{rowsSaid, groupsSaid}
@@ -113,7 +113,7 @@ prepared l row s s₁ s₃ s₄ P room e₁ f₁ e₃ f₃ e₄ f₄ =
 -- the first position
 module _ {text : List ℕ} {l : Plan} {sp : Spot} {p len : ℕ} (P : Planned l) (room : l .best + l .width ≤ len)
     (a : SpotAt text p (l .keys) (l .olds + l .depth) 1 (l .keys * 2) (l .olds + l .depth + l .depth) sp)
-    (short : p + 1 < 2147483648) where
+    (short : p + 1 < positionLimit) where
   pub laid-first : Laid l sp len
   laid-first =
       record {
@@ -152,7 +152,7 @@ flip (inr x) = inl x
 module _ {code text : List ℕ} {l : Plan} {sp sp′ : Spot} {s t : List ℕ} {o : Settled} (q : Laid l sp (length s))
     (w : SettledAs code l sp s t o) (len : length t ≡ length s)
     (a : SpotAt text (sp .position + 1) (sp .queue) (sp .stored) (o .queued) (sp .active) (sp .registers) sp′) where
-  pub laid-next : sp .position + 2 < 2147483648 → Laid l sp′ (length t)
+  pub laid-next : sp .position + 2 < positionLimit → Laid l sp′ (length t)
   laid-next short =
       let P = q .plan in
       record {

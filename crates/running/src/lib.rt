@@ -4,13 +4,15 @@ ghost use mathlib.Core.Bool.{_||_};
 ghost use Prim.Native.Nat.{ℕ, _+_, _*_, _<_, _≤_};
 ghost use lib.ListN.{length};
 ghost use Rattle.meaning.specs.Text.{byteBefore, byteAfter};
-ghost use Rattle.meaning.specs.Limits.{workspaceWords};
+ghost use Rattle.meaning.specs.Limits.{leastRows, rowLimit, positionLimit, workspaceWords};
 ghost use Rattle.machine.specs.Words.{rowsSaid, groupsSaid};
 ghost use Rattle.running_moves.specs.Chosen.{byteOf};
 ghost use Rattle.running_moves.specs.Ready.{Ready};
 ghost use Rattle.running_threads.specs.Held.{Planned};
 ghost use Rattle.running.specs.Ran.{PlanOf, SpotAt, Prepared, RanAs};
-use running_moves::NO_BYTE;
+use machine::GROUPS;
+use machine::ROWS;
+use meaning::limits::NO_BYTE;
 use running_threads::NOWHERE;
 use running_threads::Plan;
 use running_threads::Spot;
@@ -34,7 +36,7 @@ fn either(a: bool, b: bool) -> bool
 
 // Where things lie for n rows and g groups.
 fn plan_of(n: usize, g: usize) -> Plan
-    requires { ⌜ (8 ≤ n) × (n ≤ 1024) × (g * 2 + 2 ≤ n * 10) ⌝ }
+    requires { ⌜ (leastRows ≤ n) × (n ≤ rowLimit) × (g * 2 + 2 ≤ n * 10) ⌝ }
     ensures { λ l. ⌜ PlanOf n g l ⌝ }
 {
     let keys = n * 2;
@@ -116,11 +118,14 @@ fn prepare(work: &mut [u32], l: Plan, row: usize)
 // The run of code on a text from a position and a row to its end.
 pub fn run(code: &[u32], text: &[u8], start: usize, row: usize, work: &mut [u32]) -> Ran
     requires { ⌜ Ready (now code) × (row < rowsSaid (now code)) ⌝ }
-    requires { ⌜ (start ≤ length (now text)) × (length (now text) + 2 < 2147483648) ⌝ }
+    requires { ⌜ (start ≤ length (now text)) × (length (now text) + 2 < positionLimit) ⌝ }
     requires { ⌜ workspaceWords (rowsSaid (now code)) (groupsSaid (now code)) ≤ length (now work) ⌝ }
     ensures { λ r. ⌜ RanAs (now (code .entry)) (now (text .entry)) start row (now (work .entry)) (now (work .exit)) r ⌝ }
 {
-    let l = plan_of(running_threads::wide(code[0]), running_threads::wide(code[1]));
+    let l = plan_of(
+        running_threads::wide(code[ROWS]),
+        running_threads::wide(code[GROUPS]),
+    );
     prepare(work, l, row);
     let first = l.olds + l.depth;
     let mut sp = spot_at(text, start, l.keys, first, 1, l.keys * 2, first + l.depth);

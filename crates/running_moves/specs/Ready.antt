@@ -19,6 +19,7 @@ use Rattle.meaning.specs.Limits.{groupLimit, rowLimit, leastRows, rowWords, cod
 use Rattle.machine.specs.Rows.{Row, Row.accept, Row.consume, Row.jump, Row.fork, Row.opens, Row.closes, Row.reset}
 use Rattle.machine.specs.Rows.{Row.begin, Row.end, Row.assertion}
 use Rattle.machine.specs.Rows.{Program, rowCount, rowAt}
+use Rattle.machine.specs.Kinds.{listed}
 use Rattle.machine.specs.Words.{wordAt, rowsSaid, groupsSaid, rowStart, decodeRow, rowIn, rowsIn, decode, rowPasses}
 use Rattle.machine.specs.Words.{mayBeLast, eachPasses, lastPasses, rowsPass, headerPasses, codePasses}
 use Rattle.machine.specs.Coded.{rowsIn-at, rowsIn-length}
@@ -47,15 +48,15 @@ module _ (code : List ℕ) (pass : codePasses code ≡ true) where
   g = groupsSaid code
 
   parts : (((leb (codeWords n) (length code) && headerPasses n g) && below n
-      (λ q. between 1 10 (wordAt code (rowStart q)))) ≡ true) × (rowsPass (decode code) ≡ true)
+      (λ q. listed (wordAt code (rowStart q)))) ≡ true) × (rowsPass (decode code) ≡ true)
   unfolding codePasses
   parts = and-true ((leb (codeWords n) (length code) && headerPasses n g) && below n
-      (λ q. between 1 10 (wordAt code (rowStart q)))) (rowsPass (decode code)) pass
+      (λ q. listed (wordAt code (rowStart q)))) (rowsPass (decode code)) pass
 
   kinds : ((leb (codeWords n) (length code) && headerPasses n g) ≡ true) ×
-      (below n (λ q. between 1 10 (wordAt code (rowStart q))) ≡ true)
+      (below n (λ q. listed (wordAt code (rowStart q))) ≡ true)
   kinds = and-true (leb (codeWords n) (length code) && headerPasses n g)
-      (below n (λ q. between 1 10 (wordAt code (rowStart q)))) (parts .0)
+      (below n (λ q. listed (wordAt code (rowStart q)))) (parts .0)
 
   long : (leb (codeWords n) (length code) ≡ true) × (headerPasses n g ≡ true)
   long = and-true (leb (codeWords n) (length code)) (headerPasses n g) (kinds .0)
@@ -96,7 +97,7 @@ module _ (code : List ℕ) (pass : codePasses code ≡ true) where
     most = within leastRows rowLimit n (header .0) .1;
     groups = leb-true g groupLimit (header .1);
     listed = λ q h. within 1 10 (wordAt code (rowStart q))
-        (below-at n (λ q. between 1 10 (wordAt code (rowStart q))) (kinds .1) q h);
+        (below-at n (λ q. listed (wordAt code (rowStart q))) (kinds .1) q h);
     passing = each;
     next = after;
     rows = parts .1;

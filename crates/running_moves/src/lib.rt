@@ -3,14 +3,29 @@ ghost use mathlib.Core.Path.{_≡_};
 ghost use Prim.Native.Nat.{ℕ, _+_, _*_, _/_, _<_, _≤_};
 ghost use lib.ListN.{length};
 ghost use Rattle.sets.specs.Sets.{has, isWord};
+ghost use Rattle.meaning.specs.Limits.{rowWords};
 ghost use Rattle.meaning.specs.Text.{passes};
 ghost use Rattle.meaning.specs.Bytes.{asserts};
 ghost use Rattle.machine.specs.Words.{rowsSaid, rowIn};
 ghost use Rattle.running_moves.specs.Chosen.{byteOf, setIn, chosen};
 ghost use Rattle.running_moves.specs.Ready.{Ready};
-
-// Stands for "no byte", beside either end of the text.
-pub const NO_BYTE: u32 = 256;
+use machine::ACCEPT;
+use machine::AT_EDGE;
+use machine::AT_END;
+use machine::AT_START;
+use machine::BEGIN;
+use machine::CLOSE;
+use machine::CONSUME;
+use machine::END;
+use machine::FIRST;
+use machine::FORK;
+use machine::JUMP;
+use machine::OPEN;
+use machine::RESET;
+use machine::SECOND;
+use machine::SET;
+use meaning::limits::NO_BYTE;
+use meaning::limits::ROW_WORDS;
 
 // What a thread does. A key is row * 2 + flag; a register is numbered from 0, group k's start at 2k and its end at 2k + 1.
 pub enum Move {
@@ -38,11 +53,11 @@ fn wide(x: u32) -> usize
 
 // Whether byte b is in the set of a row: bit b mod 32 of word b div 32. No other routine tests a byte against a row's set.
 pub fn row_has(code: &[u32], row: usize, b: u32) -> bool
-    requires { ⌜ (b < 256) × (12 * (row + 2) ≤ length (now code)) ⌝ }
+    requires { ⌜ (b < 256) × (rowWords * (row + 2) ≤ length (now code)) ⌝ }
     ensures { λ r. ⌜ r ≡ has (setIn (now (code .entry)) row) b ⌝ }
 {
     let x = wide(b);
-    let word = code[12 * (row + 1) + 4 + x / 32];
+    let word = code[ROW_WORDS * (row + 1) + SET + x / 32];
     (word >> (b % 32)) & 1 == 1
 }
 
@@ -79,9 +94,9 @@ fn holds(a: u32, before: u32, after: u32) -> bool
     let left = is_word(before);
     let right = is_word(after);
     match a {
-        0 => before >= NO_BYTE,
-        1 => after >= NO_BYTE,
-        2 => left != right,
+        AT_START => before >= NO_BYTE,
+        AT_END => after >= NO_BYTE,
+        AT_EDGE => left != right,
         _ => left == right,
     }
 }
@@ -93,13 +108,13 @@ pub fn move_of(code: &[u32], before: u32, after: u32, key: usize) -> Move
 {
     let row = key / 2;
     let flag = key % 2;
-    let at = 12 * (row + 1);
+    let at = ROW_WORDS * (row + 1);
     let kind = code[at];
-    let a = wide(code[at + 1]);
-    let b = wide(code[at + 2]);
+    let a = wide(code[at + FIRST]);
+    let b = wide(code[at + SECOND]);
     match kind {
-        1 => Move::Win,
-        2 => {
+        ACCEPT => Move::Win,
+        CONSUME => {
             if after < NO_BYTE {
                 if row_has(code, row, after) {
                     return Move::Eat(row * 2 + 3);
@@ -107,20 +122,20 @@ pub fn move_of(code: &[u32], before: u32, after: u32, key: usize) -> Move
             }
             Move::Lose
         }
-        3 => Move::On(a * 2 + flag),
-        4 => Move::Both(a * 2 + flag, b * 2 + flag),
-        5 => Move::Write(a * 2, key + 2),
-        6 => Move::Write(a * 2 + 1, key + 2),
-        7 => Move::Wipe(a * 2, b * 2 + 2, key + 2),
-        8 => Move::On(row * 2 + 2),
-        9 => {
+        JUMP => Move::On(a * 2 + flag),
+        FORK => Move::Both(a * 2 + flag, b * 2 + flag),
+        OPEN => Move::Write(a * 2, key + 2),
+        CLOSE => Move::Write(a * 2 + 1, key + 2),
+        RESET => Move::Wipe(a * 2, b * 2 + 2, key + 2),
+        BEGIN => Move::On(row * 2 + 2),
+        END => {
             if flag == 1 {
                 return Move::On(a * 2 + flag);
             }
             Move::Lose
         }
         _ => {
-            if holds(code[at + 1], before, after) {
+            if holds(code[at + FIRST], before, after) {
                 return Move::On(key + 2);
             }
             Move::Lose

@@ -9,6 +9,7 @@ use lib.Dec.{eqb, ltb}
 use lib.ListN.{length, getD, set}
 use borrow.Author.Tests.{lt-ltb}
 use Rattle.sets.specs.Sets.{has}
+use Rattle.meaning.specs.Limits.{positionLimit}
 use Rattle.meaning.specs.Text.{Regs, fits, holdsAt, opened, closed, wiped, cleared, passes, byteBefore, byteAfter}
 use Rattle.meaning.specs.Bytes.{textOf, asserts}
 use Rattle.machine.specs.Rows.{Row, Row.accept, Row.consume, Row.jump, Row.fork, Row.opens, Row.closes, Row.reset}
@@ -32,9 +33,9 @@ map-set [] k v = refl
 map-set (x ∷ rs) zero v = refl
 map-set (x ∷ rs) (suc k) v = ap (λ (ρ : Regs). regOf x ∷ ρ) (map-set rs k v)
 
-pub reg-some : (p : ℕ) → p < 2147483648 → regOf p ≡ some p
+pub reg-some : (p : ℕ) → p < positionLimit → regOf p ≡ some p
 unfolding regOf
-reg-some p h = rw (lt-ltb p 2147483648 h)
+reg-some p h = rw (lt-ltb p positionLimit h)
 
 pub reg-none : regOf nowhere ≡ none
 unfolding regOf
@@ -80,7 +81,7 @@ made mv rs p A Q ks b c = machine p (dropped (wins mv) (pushes p mv rs ++ A)) (Q
     (bestOf (wins mv) rs b) c
 
 module _ (text : List ℕ) (p key : ℕ) (rs : List ℕ) (A Q : List Thread) (ks : List Key) (b : Option Regs) (c : ℕ)
-    (small : p < 2147483648) where
+    (small : p < positionLimit) where
   abbrev before : Option ℕ
   before = byteBefore text p
 
@@ -164,7 +165,7 @@ module _ (text : List ℕ) (p key : ℕ) (rs : List ℕ) (A Q : List Thread) (ks
 
 -- A thread's step, by the move that its row makes.
 pub steps-as : (text code : List ℕ) (sp : Spot) (key : ℕ) (rs : List ℕ) (A Q : List Thread) (ks : List Key)
-    (b : Option Regs) (c : ℕ) → sp .position < 2147483648 → key / 2 < rowsSaid code → Sees text sp
+    (b : Option Regs) (c : ℕ) → sp .position < positionLimit → key / 2 < rowsSaid code → Sees text sp
     → among (keyOf key) ks ≡ false → step (movesOf code text) (machine (sp .position) (threadOf key rs ∷ A) Q ks b c) ≡ made
     (chosen (byteOf (sp .before)) (byteOf (sp .after)) key (rowIn code (key / 2))) rs (sp .position) A Q
     (keyOf key ∷ ks) b (suc c)

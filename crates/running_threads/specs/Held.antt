@@ -5,6 +5,7 @@ use mathlib.Core.Bool.{Bool, true, false}
 use mathlib.Core.List.{List, [], _∷_, _++_}
 use Prim.Native.Nat.{ℕ, _+_, _*_, _-_, _<_, _≤_}
 use lib.ListN.{length, getD, set}
+use Rattle.meaning.specs.Limits.{positionLimit, rowLimit}
 use Rattle.machine.specs.Steps.{Thread}
 use Rattle.running_threads.specs.Words.{Below, Only, Pasted, wordsAt, fresh}
 use Rattle.running_threads.specs.Threads.{threadOf, wipe, undo, held}
@@ -21,7 +22,7 @@ pub record Planned (l : Plan) : Type 0 where
   pub olds : l .olds ≡ l .tags + l .depth
   pub best : l .best ≡ l .olds + l .depth * 3
   pub some : 0 < l .rows
-  pub few : l .rows ≤ 1024
+  pub few : l .rows ≤ rowLimit
   pub two : 2 ≤ l .width
   pub narrow : l .width ≤ l .rows * 10
 
@@ -46,7 +47,7 @@ pub record Laid (l : Plan) (sp : Spot) (len : ℕ) : Type 0 where
   pub apart : (sp .registers + l .depth ≤ sp .stored) ⊎ (sp .stored + l .depth ≤ sp .registers)
   pub end : l .best + l .width ≤ len
   pub threads : sp .threads ≤ l .keys
-  pub place : sp .position + 1 < 2147483648
+  pub place : sp .position + 1 < positionLimit
 
 -- i threads are taken, and the registers at r are of one of them.
 pub record Runs (l : Plan) (sp : Spot) (r i : ℕ) : Type 0 where

@@ -6,6 +6,7 @@ use mathlib.Core.List.{List, [], _∷_, _++_, map}
 use Prim.Native.Nat.{ℕ, zero, suc, _+_, _-_, _*_, _/_, _%_, _<_}
 use lib.Dec.{eqb, ltb}
 use lib.ListN.{getD, set}
+use Rattle.meaning.specs.Limits.{positionLimit}
 use Rattle.machine.specs.Rows.{Key, at}
 use Rattle.machine.specs.Steps.{Thread, thread, among}
 use Rattle.running_threads.specs.Words.{wordsAt}
@@ -19,7 +20,7 @@ abbrev pub nowhere : ℕ
 nowhere = 4294967295
 
 unfoldable pub regOf : ℕ → Option ℕ
-regOf v = cond (ltb v 2147483648) (some v) none
+regOf v = cond (ltb v positionLimit) (some v) none
 
 -- The thread of a key and the words of its registers.
 abbrev pub threadOf : ℕ → List ℕ → Thread

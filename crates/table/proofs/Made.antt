@@ -14,7 +14,8 @@ use Rattle.meaning.specs.Node.{Node, Node.empty, Node.bset, Node.assert, Node.g
 use Rattle.meaning.specs.Node.{hi}
 use Rattle.meaning.specs.Results.{concatMap}
 use Rattle.machine.specs.Layout.{sizeOf}
-use Rattle.table.specs.Table.{recordWords, sizeCap, noMaximum, recordsIn, recordCount, recordOf, ownRecord, records}
+use Rattle.meaning.specs.Limits.{noMaximum}
+use Rattle.table.specs.Table.{recordWords, sizeCap, recordsIn, recordCount, recordOf, ownRecord, records}
 use Rattle.table.specs.Laws.{Each, inner, kindOf, operandOf, lastOf, own, countAll, inner-words}
 use Rattle.table.specs.Derived.{recordLimit, derivedOf, leafOf, alongFrom, alongOf, closedSize, closedOf, closed, make}
 use Rattle.table.specs.Derived.{make-same, along-count, Limited}

@@ -12,12 +12,12 @@ use native.Mathlib.Omega.{arith}
 use lib.ListN.{length, getD}
 use lib.Dec.{eqb}
 use mathlib.Core.Bool.{cond, true, false}
-use Rattle.meaning.specs.Limits.{countLimit, patternLimit}
+use Rattle.meaning.specs.Limits.{countLimit, patternLimit, noMaximum}
 use Rattle.meaning.specs.Node.{Node, Node.empty, Node.bset, Node.assert, Node.group, Node.seq, Node.alt, Node.many, lower, lo}
 use Rattle.meaning.specs.Node.{hi}
 use Rattle.meaning.specs.Flat.{Kind, Kind.sequence, Kind.alternation, parts, link, join-parts}
 use Rattle.machine.specs.Layout.{sizeOf}
-use Rattle.table.specs.Table.{recordWords, sizeCap, noMaximum, maximum, recordsIn, recordCount}
+use Rattle.table.specs.Table.{recordWords, sizeCap, maximum, recordsIn, recordCount}
 use Rattle.table.specs.Laws.{inner, row-count, kindOf, operandOf, lastOf, countAll}
 use Rattle.table.specs.declared.Derived.{Derived}
 

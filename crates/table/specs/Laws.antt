@@ -10,7 +10,8 @@ use Rattle.meaning.specs.Node.{Node, Node.empty, Node.bset, Node.assert, Node.g
 use Rattle.meaning.specs.Flat.{Kind, Kind.sequence, Kind.alternation, pair, Not, parts, link, join, Flat, by-parts}
 use Rattle.meaning.specs.Results.{concatMap}
 use Rattle.table.specs.Table.{recordWords, maximum, bitOf, unless, recordsIn, recordCount, recordOf, ownRecord, wordsIn}
-use Rattle.table.specs.Table.{records}
+use Rattle.table.specs.Table.{records, emptyKind, setKind, assertionKind, groupKind, sequenceKind, alternationKind}
+use Rattle.table.specs.Table.{quantifierKind}
 
 -- What holds of each part of a list.
 abbrev pub Each : (Node → Type 0) → List Node → Type 0
@@ -41,13 +42,13 @@ inner (many n e lazy r) = r ∷ []
 
 -- The words of a pattern's own record that say what it is: its kind, its operand and its last eight words.
 abbrev pub kindOf : Node → ℕ
-kindOf empty = 1
-kindOf (bset s) = 2
-kindOf (assert a) = 3
-kindOf (group k r) = 4
-kindOf (seq r q) = 5
-kindOf (alt r q) = 6
-kindOf (many n e lazy r) = 7
+kindOf empty = emptyKind
+kindOf (bset s) = setKind
+kindOf (assert a) = assertionKind
+kindOf (group k r) = groupKind
+kindOf (seq r q) = sequenceKind
+kindOf (alt r q) = alternationKind
+kindOf (many n e lazy r) = quantifierKind
 
 abbrev pub operandOf : Node → ℕ
 operandOf empty = 0

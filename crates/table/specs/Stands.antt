@@ -4,10 +4,10 @@ use mathlib.Core.Path.{_≡_}
 use mathlib.Core.List.{List, [], _∷_, _++_}
 use Prim.Native.Nat.{ℕ, _+_, _*_, _≤_, _<_}
 use lib.ListN.{length, take, drop, getD}
-use Rattle.meaning.specs.Limits.{countLimit}
+use Rattle.meaning.specs.Limits.{countLimit, noMaximum}
 use Rattle.meaning.specs.Node.{Node, Proper}
 use Rattle.meaning.specs.Results.{concatMap}
-use Rattle.table.specs.Table.{recordWords, sizeCap, noMaximum, records}
+use Rattle.table.specs.Table.{recordWords, sizeCap, records}
 use Rattle.table.specs.Laws.{Each, inner, kindOf, operandOf, lastOf}
 use Rattle.table.specs.Derived.{recordLimit, derivedOf, alongOf, Limited}
 use Rattle.table.specs.declared.Derived.{Derived}

@@ -4,23 +4,76 @@ use mathlib.Core.Option.{Option, none, some}
 use mathlib.Core.List.{List, [], _∷_, _++_}
 use Prim.Native.Nat.{ℕ, zero, suc, _+_, min}
 use lib.ListN.{length, replicate}
-use Rattle.meaning.specs.Limits.{rowLimit, countLimit}
+use Rattle.meaning.specs.Limits.{rowLimit, noMaximum, setWords}
 use Rattle.meaning.specs.Node.{Node, Node.empty, Node.bset, Node.assert, Node.group, Node.seq, Node.alt, Node.many, lo, hi}
 use Rattle.meaning.specs.Flat.{Kind, Kind.sequence, Kind.alternation, parts}
 use Rattle.machine.specs.Layout.{sizeOf}
 
--- The words of a record.
+-- The words of a record, and which they are: kind, operand, how many records and items, size in rows, lowest and highest
+-- group; then a byte set, or a quantifier's minimum, maximum and laziness.
 abbrev pub recordWords : ℕ
 recordWords = 16
+
+abbrev pub kindWord : ℕ
+kindWord = 0
+
+abbrev pub operandWord : ℕ
+operandWord = 1
+
+abbrev pub recordsWord : ℕ
+recordsWord = 2
+
+abbrev pub itemsWord : ℕ
+itemsWord = 3
+
+abbrev pub sizeWord : ℕ
+sizeWord = 4
+
+abbrev pub lowestWord : ℕ
+lowestWord = 5
+
+abbrev pub highestWord : ℕ
+highestWord = 6
+
+abbrev pub setWord : ℕ
+setWord = 8
+
+abbrev pub leastWord : ℕ
+leastWord = setWord
+
+abbrev pub mostWord : ℕ
+mostWord = setWord + 1
+
+abbrev pub lazyWord : ℕ
+lazyWord = setWord + 2
+
+-- The kinds of records.
+abbrev pub emptyKind : ℕ
+emptyKind = 1
+
+abbrev pub setKind : ℕ
+setKind = 2
+
+abbrev pub assertionKind : ℕ
+assertionKind = 3
+
+abbrev pub groupKind : ℕ
+groupKind = 4
+
+abbrev pub sequenceKind : ℕ
+sequenceKind = 5
+
+abbrev pub alternationKind : ℕ
+alternationKind = 6
+
+abbrev pub quantifierKind : ℕ
+quantifierKind = 7
 
 -- The size in rows is held at a cap just above the limit of rows.
 abbrev pub sizeCap : ℕ
 sizeCap = rowLimit + 1
 
--- A maximum as a word: one value for no maximum, above every count.
-abbrev pub noMaximum : ℕ
-noMaximum = countLimit + 1
-
+-- A maximum as a word.
 abbrev pub maximum : ℕ → Option ℕ → ℕ
 maximum min none = noMaximum
 maximum min (some extra) = min + extra
@@ -55,15 +108,19 @@ abbrev pub recordOf : ℕ → ℕ → ℕ → Node → List ℕ → List ℕ
 recordOf kind operand items r set =
     kind ∷ operand ∷ recordCount r ∷ items ∷ min (sizeOf r) sizeCap ∷ lo r ∷ hi r ∷ 0 ∷ set
 
--- The own record of a pattern, by its kind: 1 empty, 2 byte set, 3 assertion, 4 group, 5 sequence, 6 alternation, 7 quantifier.
+-- The last words of a record that has neither set nor counts.
+abbrev pub noSet : List ℕ
+noSet = replicate setWords 0
+
+-- The own record of a pattern, by its kind.
 unfoldable pub ownRecord : Node → List ℕ
-ownRecord empty = recordOf 1 0 0 empty (replicate 8 0)
-ownRecord (bset s) = recordOf 2 0 0 (bset s) s
-ownRecord (assert a) = recordOf 3 a 0 (assert a) (replicate 8 0)
-ownRecord (group k r) = recordOf 4 k 1 (group k r) (replicate 8 0)
-ownRecord (seq r q) = recordOf 5 0 (length (parts sequence (seq r q))) (seq r q) (replicate 8 0)
-ownRecord (alt r q) = recordOf 6 0 (length (parts alternation (alt r q))) (alt r q) (replicate 8 0)
-ownRecord (many n e lazy r) = recordOf 7 0 1 (many n e lazy r) (n ∷ maximum n e ∷ bitOf lazy ∷ replicate 5 0)
+ownRecord empty = recordOf emptyKind 0 0 empty noSet
+ownRecord (bset s) = recordOf setKind 0 0 (bset s) s
+ownRecord (assert a) = recordOf assertionKind a 0 (assert a) noSet
+ownRecord (group k r) = recordOf groupKind k 1 (group k r) noSet
+ownRecord (seq r q) = recordOf sequenceKind 0 (length (parts sequence (seq r q))) (seq r q) noSet
+ownRecord (alt r q) = recordOf alternationKind 0 (length (parts alternation (alt r q))) (alt r q) noSet
+ownRecord (many n e lazy r) = recordOf quantifierKind 0 1 (many n e lazy r) (n ∷ maximum n e ∷ bitOf lazy ∷ replicate 5 0)
 
 -- The records of a pattern, the parts inside it first, left to right.
 unfoldable pub wordsIn : Option Kind → Node → List ℕ

@@ -4,9 +4,38 @@ ghost use Prim.Native.Nat.{_+_, _-_, _*_, _<_, _≤_, min, max};
 ghost use lib.ListN.{length, getD};
 ghost use lib.Seq.{paste};
 ghost use Rattle.meaning.specs.Node.{lower};
-ghost use Rattle.table.specs.Table.{recordWords, sizeCap, noMaximum};
+ghost use Rattle.meaning.specs.Limits.{noMaximum};
+ghost use Rattle.table.specs.Table.{recordWords, sizeCap};
 ghost use Rattle.table.specs.Derived.{rootOf, besideOf, leafOf, turnsOf, closedSize};
 ghost use Rattle.table.specs.Stands.{SomeRow, SomeMade, Along, Derives, Beside, Closing, Putting, Puts};
+use meaning::limits::NO_MAXIMUM;
+use meaning::limits::ROW_LIMIT;
+
+// The words of a record, and which they are: kind, operand, records, items, size, lowest and highest group; from SET on a byte
+// set, or a quantifier's minimum, maximum and laziness. specs/Table.antt has the definitions.
+pub const RECORD_WORDS: usize = 16;
+
+pub const KIND: usize = 0;
+
+pub const OPERAND: usize = 1;
+
+pub const RECORDS: usize = 2;
+
+pub const ITEMS: usize = 3;
+
+pub const SIZE: usize = 4;
+
+pub const LOWEST: usize = 5;
+
+pub const HIGHEST: usize = 6;
+
+pub const SET: usize = 8;
+
+pub const LEAST: usize = 8;
+
+pub const MOST: usize = 9;
+
+pub const LAZY: usize = 10;
 
 // The kinds of records.
 pub const EMPTY: u32 = 1;
@@ -23,11 +52,8 @@ pub const ALTERNATION: u32 = 6;
 
 pub const QUANTIFIER: u32 = 7;
 
-// A quantifier's maximum where it has none: above every count.
-pub const NO_MAXIMUM: u32 = 1001;
-
 // The size in rows is held at a cap just above the limit of rows.
-const SIZE_CAP: u32 = 1025;
+const SIZE_CAP: u32 = ROW_LIMIT + 1;
 
 // The words of a record that are derived of its part.
 pub struct Derived {
@@ -42,7 +68,7 @@ pub fn word(table: &[u32], top: usize, which: usize) -> u32
     requires { ⌜ (0 < top) × (which < recordWords) × (recordWords * top ≤ length (now table)) ⌝ }
     ensures { λ r. ⌜ r ≡ getD (now (table .entry)) (recordWords * (top - 1) + which) 0 ⌝ }
 {
-    table[16 * (top - 1) + which]
+    table[RECORD_WORDS * (top - 1) + which]
 }
 
 // The derived words of the record before record number `top`.
@@ -51,10 +77,10 @@ pub fn root(table: &[u32], top: usize) -> Derived
     ensures { λ r. ⌜ r ≡ rootOf (now (table .entry)) top ⌝ }
 {
     Derived {
-        records: word(table, top, 2),
-        size: word(table, top, 4),
-        lowest: word(table, top, 5),
-        highest: word(table, top, 6),
+        records: word(table, top, RECORDS),
+        size: word(table, top, SIZE),
+        lowest: word(table, top, LOWEST),
+        highest: word(table, top, HIGHEST),
     }
 }
 
@@ -187,12 +213,12 @@ pub fn derive(
 }
 
 // Sixteen words into the table from an index on.
-fn copy(table: &mut [u32], base: usize, words: &[u32; 16])
+fn copy(table: &mut [u32], base: usize, words: &[u32; RECORD_WORDS])
     requires { ⌜ (base + recordWords ≤ length (now table)) × (length (now words) ≡ recordWords) ⌝ }
     ensures { λ _. ⌜ now (table .exit) ≡ paste (now (table .entry)) base (now (words .entry)) recordWords ⌝ }
 {
     let mut k: usize = 0;
-    while k < 16 {
+    while k < RECORD_WORDS {
         table[base + k] = words[k];
         k += 1;
     }
@@ -223,5 +249,5 @@ pub fn put(table: &mut [u32], top: usize, kind: u32, operand: u32, items: u32, l
         last[6],
         last[7],
     ];
-    copy(table, 16 * top, &words);
+    copy(table, RECORD_WORDS * top, &words);
 }

@@ -4,10 +4,11 @@ ghost use Rattle.tidying_fitting.specs.Fitting.{lawOf};
 ghost use Rattle.tidying_rewriting.specs.Rewriting.{SomeFitting, Rewrites};
 ghost use Rattle.tidying.specs.Search.{SomeSought, Finds};
 ghost use Rattle.tidying.specs.Held.{SomeHeld, SomeFound, Steps, Tidies};
+use reading_items::clear;
+use table::RECORD_WORDS;
 use tidying_fitting::LAWS;
 use tidying_fitting::Mark;
 use tidying_fitting::fits;
-use reading_items::clear;
 use tidying_rewriting::drop_alternative;
 use tidying_rewriting::fill;
 use tidying_rewriting::unnest;
@@ -86,6 +87,6 @@ pub fn tidy(table: &mut [u32], n: usize) -> usize
         };
         count = step(table, count, part, law);
     }
-    clear(table, 16 * count);
+    clear(table, RECORD_WORDS * count);
     count
 }

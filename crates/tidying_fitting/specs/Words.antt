@@ -11,7 +11,8 @@ use lib.Dec.{eqb, leb}
 use borrow.Author.Tests.{eq-eqb, ne-eqb, eqb-true, eqb-false, le-leb, lt-leb}
 use Rattle.meaning.specs.Node.{Node, Node.empty, Node.bset, Node.assert, Node.group, Node.seq, Node.alt, Node.many, hi}
 use Rattle.meaning.specs.Results.{orElse}
-use Rattle.table.specs.Table.{recordCount, noMaximum, maximum, bitOf}
+use Rattle.meaning.specs.Limits.{noMaximum}
+use Rattle.table.specs.Table.{recordCount, maximum, bitOf}
 use Rattle.table.specs.Laws.{inner, kindOf, lastOf}
 use Rattle.table.specs.Derived.{Limited}
 use Rattle.tidying_laws.specs.Groups.{groups, Positive, positive-both, groupFree, free-groups, same-high}

@@ -1,5 +1,12 @@
 // Whether a law of the tidier fits a part of a pattern that stands as records in a table (docs/TABLE.md). A part's own record
 // stands right below the record number at which its records end, `top`, on the parts inside it.
+use table::HIGHEST;
+use table::ITEMS;
+use table::KIND;
+use table::LAZY;
+use table::LEAST;
+use table::MOST;
+use table::RECORDS;
 use table::word;
 
 mod quantifiers; // quantifiers.rt: T2 to T5 and T9, laws for a quantifier
@@ -40,13 +47,13 @@ pub fn own(table: &[u32], top: usize) -> Record
     ensures { λ r. ⌜ Tells r (now (table .entry)) top ownOf ⌝ }
 {
     Record {
-        kind: word(table, top, 0),
-        records: word(table, top, 2),
-        items: word(table, top, 3),
-        highest: word(table, top, 6),
-        least: word(table, top, 8),
-        most: word(table, top, 9),
-        lazy: word(table, top, 10),
+        kind: word(table, top, KIND),
+        records: word(table, top, RECORDS),
+        items: word(table, top, ITEMS),
+        highest: word(table, top, HIGHEST),
+        least: word(table, top, LEAST),
+        most: word(table, top, MOST),
+        lazy: word(table, top, LAZY),
     }
 }
 

@@ -1,9 +1,9 @@
 // The laws for a quantifier: T2 to T5 and T9. Its part's own record stands right below its own.
 use super::Record;
 use super::own;
+use meaning::limits::NO_MAXIMUM;
 use table::ASSERTION;
 use table::EMPTY;
-use table::NO_MAXIMUM;
 use table::QUANTIFIER;
 ghost use mathlib.Core.Path.{_≡_};
 ghost use Rattle.tidying_fitting.specs.Fitting.{fits};

@@ -7,6 +7,7 @@ use super::start;
 use table::ALTERNATION;
 use table::BYTE_SET;
 use table::EMPTY;
+use table::RECORD_WORDS;
 use table::SEQUENCE;
 ghost use mathlib.Core.List.{[]};
 ghost use Prim.Native.Nat.{_+_, _≤_};
@@ -103,7 +104,12 @@ fn same_part(table: &[u32], one: usize, other: usize) -> bool
     if other - back != records {
         return false;
     }
-    same_words(table, 16 * from, 16 * back, 16 * records)
+    same_words(
+        table,
+        RECORD_WORDS * from,
+        RECORD_WORDS * back,
+        RECORD_WORDS * records,
+    )
 }
 
 // Whether the last part of a row equals an earlier one.

@@ -1,15 +1,20 @@
 // Carrying out a law of the tidier at a part of a pattern that stands as records in a table (docs/TABLE.md), in place. The
 // part's own record is record `part` of `n`, and its other records stand right below it. Answered is how many records are left.
+use table::BYTE_SET;
+use table::EMPTY;
+use table::ITEMS;
+use table::KIND;
+use table::LEAST;
+use table::RECORD_WORDS;
+use table::RECORDS;
+use table::SEQUENCE;
+use table::word;
 use tidying_fitting::Mark;
 use tidying_fitting::series::leftmost;
 use tidying_fitting::start;
 use tidying_shapes::mark;
 use tidying_shapes::remove;
 use tidying_shapes::set_items;
-use table::BYTE_SET;
-use table::EMPTY;
-use table::SEQUENCE;
-use table::word;
 ghost use Prim.Native.Nat.{_+_, _*_, _<_, _≤_};
 ghost use lib.ListN.{length};
 ghost use Rattle.table.specs.Table.{recordWords};
@@ -25,7 +30,7 @@ fn shrink(table: &mut [u32], n: usize, part: usize, kind: u32) -> usize
     requires { ⌜ SomePlaced (now table) n part ⌝ }
     ensures { λ r. ⌜ Shrinks (now (table .entry)) (now (table .exit)) n part kind r ⌝ }
 {
-    let gone = word(table, part + 1, 2) as usize - 1;
+    let gone = word(table, part + 1, RECORDS) as usize - 1;
     remove(table, n, part - gone, gone);
     mark(table, part - gone, kind, 0, 0, [0u32; 8]);
     n - gone
@@ -36,7 +41,7 @@ fn cut(table: &mut [u32], n: usize, at: usize, count: usize) -> usize
     requires { ⌜ (at + count ≤ n) × (recordWords * n ≤ length (now table)) ⌝ }
     ensures { λ r. ⌜ Cut (now (table .entry)) (now (table .exit)) n at count r ⌝ }
 {
-    remove(&mut table[16 * at..], n - at, 0, count);
+    remove(&mut table[RECORD_WORDS * at..], n - at, 0, count);
     n - count
 }
 
@@ -63,18 +68,18 @@ pub fn fill(table: &mut [u32], n: usize, part: usize) -> usize
     requires { ⌜ SomeFitting t1 (now table) n part ⌝ }
     ensures { λ r. ⌜ Rewrites t1 (now (table .entry)) (now (table .exit)) n part r ⌝ }
 {
-    let mut left = word(table, part + 1, 3);
+    let mut left = word(table, part + 1, ITEMS);
     let mut end = part;
     let mut count = n;
     let mut kept: u32 = 0;
     while 0 < left {
         left -= 1;
-        if word(table, end, 0) == EMPTY {
+        if word(table, end, KIND) == EMPTY {
             end -= 1;
             count = cut(table, count, end, 1);
             continue;
         }
-        end -= word(table, end, 2) as usize;
+        end -= word(table, end, RECORDS) as usize;
         kept += 1;
     }
     close(table, count, part + count - n, kept)
@@ -85,7 +90,7 @@ pub fn unquantify(table: &mut [u32], n: usize, part: usize) -> usize
     requires { ⌜ SomeFitting unquantified (now table) n part ⌝ }
     ensures { λ r. ⌜ Rewrites unquantified (now (table .entry)) (now (table .exit)) n part r ⌝ }
 {
-    if word(table, part + 1, 8) == 0 {
+    if word(table, part + 1, LEAST) == 0 {
         return shrink(table, n, part, EMPTY);
     }
     remove(table, n, part, 1);
@@ -106,7 +111,7 @@ pub fn drop_alternative(table: &mut [u32], n: usize, part: usize, sought: Mark) 
     requires { ⌜ SomeFitting (dropping sought) (now table) n part ⌝ }
     ensures { λ r. ⌜ Rewrites (dropping sought) (now (table .entry)) (now (table .exit)) n part r ⌝ }
 {
-    let items = word(table, part + 1, 3);
+    let items = word(table, part + 1, ITEMS);
     let end = leftmost(table, part + 1, sought);
     let from = start(table, end);
     let count = cut(table, n, from, end - from);
@@ -118,7 +123,7 @@ pub fn void(table: &mut [u32], n: usize, part: usize) -> usize
     requires { ⌜ SomeFitting t7 (now table) n part ⌝ }
     ensures { λ r. ⌜ Rewrites t7 (now (table .entry)) (now (table .exit)) n part r ⌝ }
 {
-    if word(table, part + 1, 0) == SEQUENCE {
+    if word(table, part + 1, KIND) == SEQUENCE {
         return shrink(table, n, part, BYTE_SET);
     }
     drop_alternative(table, n, part, Mark::Void)

@@ -13,7 +13,8 @@ use borrow.Author.Tests.{ne-eqb}
 use Rattle.meaning.specs.Node.{Node, Node.empty, Node.bset, Node.assert, Node.group, Node.seq, Node.alt, Node.many, Proper}
 use Rattle.meaning.specs.Flat.{Kind, Kind.sequence, Kind.alternation, pair, Not, parts, join, join-parts}
 use Rattle.meaning.specs.Results.{concatMap}
-use Rattle.table.specs.Table.{noMaximum, maximum, bitOf}
+use Rattle.meaning.specs.Limits.{noMaximum}
+use Rattle.table.specs.Table.{maximum, bitOf}
 use Rattle.table.specs.Laws.{Each, inner, parts-alone}
 use Rattle.table.specs.Derived.{Limited}
 use Rattle.tidying_shapes.specs.Skeleton.{Token, token, rowToken, closing, skeletonIn, skeleton, pair-in, row-token}

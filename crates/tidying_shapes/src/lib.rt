@@ -10,16 +10,20 @@ ghost use Rattle.tidying_shapes.specs.Edits.{Removed, Inserted, Marked, 
 ghost use Rattle.tidying_shapes.specs.Settling.{Parented, SomeUnsettled, Settled};
 ghost use Rattle.tidying_shapes.specs.Fresh.{SomeSaid, Refreshed};
 use table::ALTERNATION;
+use table::ITEMS;
+use table::OPERAND;
+use table::RECORD_WORDS;
 use table::SEQUENCE;
+use table::SET;
 
 // The `count` records from `at` on go: the words behind them move down.
 pub fn remove(table: &mut [u32], n: usize, at: usize, count: usize)
     requires { ⌜ (at + count ≤ n) × (recordWords * n ≤ length (now table)) ⌝ }
     ensures { λ _. ⌜ Removed (now (table .entry)) (now (table .exit)) n at count ⌝ }
 {
-    let to = 16 * at;
-    let from = 16 * (at + count);
-    let words = 16 * (n - count - at);
+    let to = RECORD_WORDS * at;
+    let from = RECORD_WORDS * (at + count);
+    let words = RECORD_WORDS * (n - count - at);
     let mut k: usize = 0;
     while k < words {
         table[to + k] = table[from + k];
@@ -32,9 +36,9 @@ pub fn insert(table: &mut [u32], n: usize, at: usize)
     requires { ⌜ (at ≤ n) × (recordWords * (n + 1) ≤ length (now table)) ⌝ }
     ensures { λ _. ⌜ Inserted (now (table .entry)) (now (table .exit)) n at ⌝ }
 {
-    let from = 16 * at;
-    let to = 16 * (at + 1);
-    let mut k = 16 * (n - at);
+    let from = RECORD_WORDS * at;
+    let to = RECORD_WORDS * (at + 1);
+    let mut k = RECORD_WORDS * (n - at);
     while 0 < k {
         k -= 1;
         table[to + k] = table[from + k];
@@ -42,12 +46,12 @@ pub fn insert(table: &mut [u32], n: usize, at: usize)
 }
 
 // Sixteen words into the table from an index on.
-fn copy(table: &mut [u32], base: usize, words: &[u32; 16])
+fn copy(table: &mut [u32], base: usize, words: &[u32; RECORD_WORDS])
     requires { ⌜ (base + recordWords ≤ length (now table)) × (length (now words) ≡ recordWords) ⌝ }
     ensures { λ _. ⌜ now (table .exit) ≡ paste (now (table .entry)) base (now (words .entry)) recordWords ⌝ }
 {
     let mut k: usize = 0;
-    while k < 16 {
+    while k < RECORD_WORDS {
         table[base + k] = words[k];
         k += 1;
     }
@@ -76,7 +80,7 @@ pub fn mark(table: &mut [u32], at: usize, kind: u32, operand: u32, items: u32, l
         last[6],
         last[7],
     ];
-    copy(table, 16 * at, &words);
+    copy(table, RECORD_WORDS * at, &words);
 }
 
 // The record at `at` says that it has so many items.
@@ -84,7 +88,7 @@ pub fn set_items(table: &mut [u32], at: usize, items: u32)
     requires { ⌜ recordWords * (at + 1) ≤ length (now table) ⌝ }
     ensures { λ _. ⌜ Counted (now (table .entry)) (now (table .exit)) at items ⌝ }
 {
-    table[16 * at + 3] = items;
+    table[RECORD_WORDS * at + ITEMS] = items;
 }
 
 // The record that a part, whose own record is `part`, is an item of: the first behind it that takes more items than there are
@@ -96,7 +100,7 @@ pub fn parent(table: &[u32], n: usize, part: usize) -> usize
     let mut at = part + 1;
     let mut since: usize = 0;
     while at < n {
-        let items = table[16 * at + 3] as usize;
+        let items = table[RECORD_WORDS * at + ITEMS] as usize;
         if since < items {
             return at;
         }
@@ -112,7 +116,7 @@ pub fn settle(table: &mut [u32], n: usize, root: usize) -> usize
     requires { ⌜ SomeUnsettled (now table) n root ⌝ }
     ensures { λ r. ⌜ Settled (now (table .entry)) (now (table .exit)) n root r ⌝ }
 {
-    let kind = table[16 * root];
+    let kind = table[RECORD_WORDS * root];
     if kind < SEQUENCE {
         return n;
     }
@@ -123,10 +127,10 @@ pub fn settle(table: &mut [u32], n: usize, root: usize) -> usize
     if at == n {
         return n;
     }
-    if table[16 * at] != kind {
+    if table[RECORD_WORDS * at] != kind {
         return n;
     }
-    let items = table[16 * at + 3] + table[16 * root + 3] - 1;
+    let items = table[RECORD_WORDS * at + ITEMS] + table[RECORD_WORDS * root + ITEMS] - 1;
     set_items(table, at, items);
     remove(table, n, root, 1);
     n - 1
@@ -140,7 +144,7 @@ pub fn last_words(table: &[u32], at: usize) -> [u32; 8]
     let mut last = [0u32; 8];
     let mut k: usize = 0;
     while k < 8 {
-        last[k] = table[16 * at + 8 + k];
+        last[k] = table[RECORD_WORDS * at + SET + k];
         k += 1;
     }
     last
@@ -153,9 +157,9 @@ pub fn refresh(table: &mut [u32], n: usize)
 {
     let mut at: usize = 0;
     while at < n {
-        let kind = table[16 * at];
-        let operand = table[16 * at + 1];
-        let items = table[16 * at + 3];
+        let kind = table[RECORD_WORDS * at];
+        let operand = table[RECORD_WORDS * at + OPERAND];
+        let items = table[RECORD_WORDS * at + ITEMS];
         let last = last_words(table, at);
         table::put(table, at, kind, operand, items, last);
         at += 1;

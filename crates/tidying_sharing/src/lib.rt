@@ -1,6 +1,14 @@
 // T8 carried out in a table of records (docs/TABLE.md), in place: the leftmost run of alternatives that begin with one byte set
 // shares it. Each of them loses the set, and what is left of them is one alternation, which follows the set in a sequence. The
 // alternatives are taken from the last one back, so that the records of those before stay as they are.
+use table::ALTERNATION;
+use table::BYTE_SET;
+use table::EMPTY;
+use table::ITEMS;
+use table::KIND;
+use table::RECORD_WORDS;
+use table::SEQUENCE;
+use table::word;
 use tidying_fitting::Mark;
 use tidying_fitting::series::begins_alike;
 use tidying_fitting::series::leftmost;
@@ -11,11 +19,6 @@ use tidying_shapes::last_words;
 use tidying_shapes::mark;
 use tidying_shapes::remove;
 use tidying_shapes::set_items;
-use table::ALTERNATION;
-use table::BYTE_SET;
-use table::EMPTY;
-use table::SEQUENCE;
-use table::word;
 ghost use mathlib.Core.Path.{_≡_};
 ghost use Prim.Native.Nat.{_+_, _*_, _≤_};
 ghost use lib.ListN.{length};
@@ -58,14 +61,14 @@ fn trim(table: &mut [u32], n: usize, records: usize) -> Trimmed
         mark(table, 0, EMPTY, 0, 0, [0u32; 8]);
         return Trimmed { n, parts: 1 };
     }
-    let items = word(table, records, 3);
+    let items = word(table, records, ITEMS);
     if 2 < items {
         set_items(table, records - 1, items - 1);
         remove(table, n, 0, 1);
         return Trimmed { n: n - 1, parts: 1 };
     }
-    if word(table, records - 1, 0) == ALTERNATION {
-        let parts = word(table, records - 1, 3);
+    if word(table, records - 1, KIND) == ALTERNATION {
+        let parts = word(table, records - 1, ITEMS);
         remove(table, n, records - 2, 2);
         remove(table, n - 2, 0, 1);
         return Trimmed { n: n - 3, parts };
@@ -81,7 +84,7 @@ fn trim_at(table: &mut [u32], n: usize, at: usize, end: usize) -> Trimmed
     requires { ⌜ SomeTrimmingAt (now table) n at end ⌝ }
     ensures { λ r. ⌜ TrimsAt (now (table .entry)) (now (table .exit)) n at end (r .n) (r .parts) ⌝ }
 {
-    let left = trim(&mut table[16 * at..], n - at, end - at);
+    let left = trim(&mut table[RECORD_WORDS * at..], n - at, end - at);
     Trimmed {
         n: at + left.n,
         parts: left.parts,
@@ -167,7 +170,7 @@ pub fn share(table: &mut [u32], n: usize, part: usize) -> usize
     requires { ⌜ SomeFitting t8 (now table) n part ⌝ }
     ensures { λ r. ⌜ Rewrites t8 (now (table .entry)) (now (table .exit)) n part r ⌝ }
 {
-    let items = word(table, part + 1, 3);
+    let items = word(table, part + 1, ITEMS);
     let run = find(table, part);
     let from = run.from;
     let stop = run.stop;

@@ -12,61 +12,47 @@ use Rattle.compiler.proofs.without_program.Reads as without-program-rea
 use Rattle.reading.proofs.read.Reads as read-reads
 use Rattle.code_rows.proofs.emit.Reads as emit-reads
 
--- src/lib.rt:31:11
 read-requires : tie.Need-read-requires
 read-requires c κs = search needs
 
--- src/lib.rt:32:28
 enum-known-number : tie.Need-enum-known-number
 enum-known-number c = search needs
 
--- src/lib.rt:33:28
 enum-known-records : tie.Need-enum-known-records
 enum-known-records c = search needs
 
--- src/lib.rt:33:55
 emit-requires : tie.Need-emit-requires
 emit-requires c κs = given-some (given (bytes-of _ ((c .before .before .before .before .before .before .before .before .before
     .before .before .shared-slice-known) .given)) ((c .before .before .before .before .before .before .before .read) .ensures)
     ((c .before .before .before .records) .given .1))
 
--- src/lib.rt:34:28
 enum-known-rows : tie.Need-enum-known-rows
 enum-known-rows c = search needs
 
--- src/lib.rt:35:50
 enum-told : tie.Need-enum-told
 enum-told c = search needs
 
--- src/lib.rt:35:34
 without-program-requires : tie.Need-without-program-requires
 without-program-requires c κs = search needs
 
--- src/lib.rt:36:51
 enum-told-2 : tie.Need-enum-told-2
 enum-told-2 c = search needs
 
--- src/lib.rt:36:35
 without-program-requires-2 : tie.Need-without-program-requires-2
 without-program-requires-2 c κs = search needs
 
--- src/lib.rt:27:1
 same-length : tie.Need-same-length
 same-length c = search needs
 
--- src/lib.rt:27:1
 returns : tie.Need-returns
 returns c = turned-away ((c .before .before .before .before .before .read) .ensures) ((c .before .number) .given .1)
 
--- src/lib.rt:27:1
 same-length-2 : tie.Need-same-length-2
 same-length-2 c = search needs
 
--- src/lib.rt:27:1
 same-length-3 : tie.Need-same-length-3
 same-length-3 c = search needs
 
--- src/lib.rt:27:1
 returns-2 : tie.Need-returns-2
 returns-2 c =
     let known = given (bytes-of _ ((c .before .before .before .before .before .before .before .before .before .before .before
@@ -75,15 +61,12 @@ returns-2 c =
     .ensures) ((c .before .before .before .before .before .before .before .before .before .records) .given .1) in
     made _ known ((c .before .before .before .before .before .emit) .ensures) ((c .before .rows) .given .1) refl
 
--- src/lib.rt:27:1
 same-length-4 : tie.Need-same-length-4
 same-length-4 c = search needs
 
--- src/lib.rt:27:1
 same-length-5 : tie.Need-same-length-5
 same-length-5 c = search needs
 
--- src/lib.rt:27:1
 returns-3 : tie.Need-returns-3
 returns-3 c =
     let known = given (bytes-of _ ((c .before .before .before .before .before .before .before .before .before .before .before
@@ -94,15 +77,12 @@ returns-3 c =
     unmade TooMany known ((c .before .before .before .before .before .before .before .before .emit) .ensures)
     ((c .before .before .before .before .enum-told) .given .1) ((c .before .before .without-program) .ensures) refl refl
 
--- src/lib.rt:27:1
 same-length-6 : tie.Need-same-length-6
 same-length-6 c = search needs
 
--- src/lib.rt:27:1
 same-length-7 : tie.Need-same-length-7
 same-length-7 c = search needs
 
--- src/lib.rt:27:1
 returns-4 : tie.Need-returns-4
 returns-4 c =
     let known = given (bytes-of _ ((c .before .before .before .before .before .before .before .before .before .before .before

@@ -8,15 +8,12 @@ use Rattle.compiler.proofs.without_program.Reads as reads
 use Rattle.compiler.proofs.without_program.Lts as lts
 use Rattle.reading_items.proofs.clear.Reads as clear-reads
 
--- src/lib.rt:22:5
 clear-requires : tie.Need-clear-requires
 clear-requires c κs = search needs
 
--- src/lib.rt:19:1
 same-length : tie.Need-same-length
 same-length c = search needs
 
--- src/lib.rt:19:1
 returns : tie.Need-returns
 returns c =
     let start = c .before .before .before .before .before in

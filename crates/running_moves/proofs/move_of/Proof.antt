@@ -10,150 +10,114 @@ use Rattle.running_moves.proofs.holds.Reads as holds-reads
 use Rattle.running_moves.proofs.row_has.Reads as row-has-reads
 use Rattle.running_moves.proofs.wide.Reads as wide-reads
 
--- src/lib.rt:96:20
 add-at : tie.Need-add-at
 add-at c = search needs
 
--- src/lib.rt:96:14
 mul-at : tie.Need-mul-at
 mul-at c = search needs
 
--- src/lib.rt:97:16
 mul-kind : tie.Need-mul-kind
 mul-kind c = search needs
 
--- src/lib.rt:97:16
 shared-slice-read-kind : tie.Need-shared-slice-read-kind
 shared-slice-read-kind c = search needs
 
--- src/lib.rt:98:23
 add-wide : tie.Need-add-wide
 add-wide c = search needs
 
--- src/lib.rt:98:18
 mul-wide : tie.Need-mul-wide
 mul-wide c = search needs
 
--- src/lib.rt:98:18
 shared-slice-read-wide : tie.Need-shared-slice-read-wide
 shared-slice-read-wide c = search needs
 
--- src/lib.rt:98:9
 wide-requires : tie.Need-wide-requires
 wide-requires c κs = search needs
 
--- src/lib.rt:99:23
 add-wide-2 : tie.Need-add-wide-2
 add-wide-2 c = search needs
 
--- src/lib.rt:99:18
 mul-wide-2 : tie.Need-mul-wide-2
 mul-wide-2 c = search needs
 
--- src/lib.rt:99:18
 shared-slice-read-wide-2 : tie.Need-shared-slice-read-wide-2
 shared-slice-read-wide-2 c = search needs
 
--- src/lib.rt:99:9
 wide-requires-2 : tie.Need-wide-requires-2
 wide-requires-2 c κs = search needs
 
--- src/lib.rt:104:20
 row-has-requires : tie.Need-row-has-requires
 row-has-requires c κs = search needs
 
--- src/lib.rt:105:38
 mul-t20 : tie.Need-mul-t20
 mul-t20 c = search needs
 
--- src/lib.rt:105:38
 add-t21 : tie.Need-add-t21
 add-t21 c = search needs
 
--- src/lib.rt:105:21
 returns : tie.Need-returns
 returns c =
     let a = (c .before .before .before .before .before .before .before .before .before .before) .args in
     eats (a .code .now) (a .before) (a .after) (a .key) ((c .before .before .before .match) .keys2)
     ((c .before .before .if1) .taken) ((c .before .row-has) .result) ((c .before .row-has) .ensures) ((c .if2) .taken)
 
--- src/lib.rt:110:23
 mul-t22 : tie.Need-mul-t22
 mul-t22 c = search needs
 
--- src/lib.rt:110:23
 add-t23 : tie.Need-add-t23
 add-t23 c = search needs
 
--- src/lib.rt:111:25
 mul-t24 : tie.Need-mul-t24
 mul-t24 c = search needs
 
--- src/lib.rt:111:25
 add-t25 : tie.Need-add-t25
 add-t25 c = search needs
 
--- src/lib.rt:111:39
 mul-t26 : tie.Need-mul-t26
 mul-t26 c = search needs
 
--- src/lib.rt:111:39
 add-t27 : tie.Need-add-t27
 add-t27 c = search needs
 
--- src/lib.rt:112:26
 mul-t28 : tie.Need-mul-t28
 mul-t28 c = search needs
 
--- src/lib.rt:112:33
 add-t29 : tie.Need-add-t29
 add-t29 c = search needs
 
--- src/lib.rt:113:26
 mul-t30 : tie.Need-mul-t30
 mul-t30 c = search needs
 
--- src/lib.rt:113:26
 add-t31 : tie.Need-add-t31
 add-t31 c = search needs
 
--- src/lib.rt:113:37
 add-t32 : tie.Need-add-t32
 add-t32 c = search needs
 
--- src/lib.rt:114:25
 mul-t33 : tie.Need-mul-t33
 mul-t33 c = search needs
 
--- src/lib.rt:114:32
 mul-t34 : tie.Need-mul-t34
 mul-t34 c = search needs
 
--- src/lib.rt:114:32
 add-t35 : tie.Need-add-t35
 add-t35 c = search needs
 
--- src/lib.rt:114:43
 add-t36 : tie.Need-add-t36
 add-t36 c = search needs
 
--- src/lib.rt:115:23
 mul-t37 : tie.Need-mul-t37
 mul-t37 c = search needs
 
--- src/lib.rt:115:23
 add-t38 : tie.Need-add-t38
 add-t38 c = search needs
 
--- src/lib.rt:118:33
 mul-t40 : tie.Need-mul-t40
 mul-t40 c = search needs
 
--- src/lib.rt:118:33
 add-t41 : tie.Need-add-t41
 add-t41 c = search needs
 
--- src/lib.rt:118:17
 returns-2 : tie.Need-returns-2
 returns-2 c =
     let a = (c .before .before .before .before .before .before .before .before) .args in
@@ -161,19 +125,15 @@ returns-2 c =
     ((c .before .before .wide2) .result) ((c .before .before .before .before .wide) .ensures .0)
     ((c .before .before .wide2) .ensures .0) ((c .before .match) .keys9) ((c .if3) .taken)
 
--- src/lib.rt:123:27
 add-holds : tie.Need-add-holds
 add-holds c = search needs
 
--- src/lib.rt:123:22
 mul-holds : tie.Need-mul-holds
 mul-holds c = search needs
 
--- src/lib.rt:123:22
 shared-slice-read-holds : tie.Need-shared-slice-read-holds
 shared-slice-read-holds c = search needs
 
--- src/lib.rt:123:16
 holds-requires : tie.Need-holds-requires
 holds-requires c κs =
     let a = (c .before .before .before .before .before .before .before .before) .args in
@@ -187,11 +147,9 @@ holds-requires c κs =
     ((c .before .before .before .before .before .before .before .before) .pre .0)
     ((c .before .before .before .before .before .before .before .before) .pre .1) ten
 
--- src/lib.rt:124:33
 add-t47 : tie.Need-add-t47
 add-t47 c = search needs
 
--- src/lib.rt:124:17
 returns-3 : tie.Need-returns-3
 returns-3 c =
     let a = (c .before .before .before .before .before .before .before .before .before .before) .args in
@@ -204,26 +162,22 @@ returns-3 c =
     holds-there (a .code .now) (a .before) (a .after) (a .key) ((c .before .holds) .result)
     ((c .before .holds) .ensures) ten ((c .if4) .taken)
 
--- src/lib.rt:90:1
 returns-4 : tie.Need-returns-4
 returns-4 c =
     let a = (c .before .before .before .before .before .before .before) .args in
     accepts (a .code .now) (a .before) (a .after) (a .key) ((c .match) .keys1)
 
--- src/lib.rt:90:1
 returns-5 : tie.Need-returns-5
 returns-5 c =
     let a = (c .before .before .before .before .before .before .before .before .before .before) .args in
     starves (a .code .now) (a .before) (a .after) (a .key) ((c .before .before .before .match) .keys2)
     ((c .before .before .if1) .taken) ((c .before .row-has) .result) ((c .before .row-has) .ensures) ((c .if2) .left)
 
--- src/lib.rt:90:1
 returns-6 : tie.Need-returns-6
 returns-6 c =
     let a = (c .before .before .before .before .before .before .before .before) .args in
     ended (a .code .now) (a .before) (a .after) (a .key) ((c .before .match) .keys2) ((c .if1) .left)
 
--- src/lib.rt:90:1
 returns-7 : tie.Need-returns-7
 returns-7 c =
     let a = (c .before .before .before .before .before .before .before) .args in
@@ -231,7 +185,6 @@ returns-7 c =
     ((c .before .wide2) .result) ((c .before .before .before .wide) .ensures .0) ((c .before .wide2) .ensures .0)
     ((c .match) .keys3)
 
--- src/lib.rt:90:1
 returns-8 : tie.Need-returns-8
 returns-8 c =
     let a = (c .before .before .before .before .before .before .before) .args in
@@ -239,7 +192,6 @@ returns-8 c =
     ((c .before .wide2) .result) ((c .before .before .before .wide) .ensures .0) ((c .before .wide2) .ensures .0)
     ((c .match) .keys4)
 
--- src/lib.rt:90:1
 returns-9 : tie.Need-returns-9
 returns-9 c =
     let a = (c .before .before .before .before .before .before .before) .args in
@@ -247,7 +199,6 @@ returns-9 c =
     ((c .before .wide2) .result) ((c .before .before .before .wide) .ensures .0) ((c .before .wide2) .ensures .0)
     ((c .match) .keys5)
 
--- src/lib.rt:90:1
 returns-10 : tie.Need-returns-10
 returns-10 c =
     let a = (c .before .before .before .before .before .before .before) .args in
@@ -255,7 +206,6 @@ returns-10 c =
     ((c .before .wide2) .result) ((c .before .before .before .wide) .ensures .0) ((c .before .wide2) .ensures .0)
     ((c .match) .keys6)
 
--- src/lib.rt:90:1
 returns-11 : tie.Need-returns-11
 returns-11 c =
     let a = (c .before .before .before .before .before .before .before) .args in
@@ -263,7 +213,6 @@ returns-11 c =
     ((c .before .wide2) .result) ((c .before .before .before .wide) .ensures .0) ((c .before .wide2) .ensures .0)
     ((c .match) .keys7)
 
--- src/lib.rt:90:1
 returns-12 : tie.Need-returns-12
 returns-12 c =
     let a = (c .before .before .before .before .before .before .before) .args in
@@ -271,7 +220,6 @@ returns-12 c =
     ((c .before .wide2) .result) ((c .before .before .before .wide) .ensures .0) ((c .before .wide2) .ensures .0)
     ((c .match) .keys8)
 
--- src/lib.rt:90:1
 returns-13 : tie.Need-returns-13
 returns-13 c =
     let a = (c .before .before .before .before .before .before .before .before) .args in
@@ -279,7 +227,6 @@ returns-13 c =
     ((c .before .before .wide2) .result) ((c .before .before .before .before .wide) .ensures .0)
     ((c .before .before .wide2) .ensures .0) ((c .before .match) .keys9) ((c .if3) .left)
 
--- src/lib.rt:90:1
 returns-14 : tie.Need-returns-14
 returns-14 c =
     let a = (c .before .before .before .before .before .before .before .before .before .before) .args in

@@ -7,39 +7,30 @@ use Rattle.running_moves.proofs.row_has.Reads as reads
 use Rattle.running_moves.proofs.row_has.Lts as lts
 use Rattle.running_moves.proofs.wide.Reads as wide-reads
 
--- src/lib.rt:44:9
 wide-requires : tie.Need-wide-requires
 wide-requires c κs = search needs
 
--- src/lib.rt:45:27
 add-word : tie.Need-add-word
 add-word c = search needs
 
--- src/lib.rt:45:21
 mul-word : tie.Need-mul-word
 mul-word c = search needs
 
--- src/lib.rt:45:21
 add-word-2 : tie.Need-add-word-2
 add-word-2 c = search needs
 
--- src/lib.rt:45:21
 add-word-3 : tie.Need-add-word-3
 add-word-3 c = search needs
 
--- src/lib.rt:45:16
 mul-word-2 : tie.Need-mul-word-2
 mul-word-2 c = search needs
 
--- src/lib.rt:45:16
 shared-slice-read-word : tie.Need-shared-slice-read-word
 shared-slice-read-word c = search needs
 
--- src/lib.rt:46:6
 shr-result : tie.Need-shr-result
 shr-result c = search needs
 
--- src/lib.rt:40:1
 returns : tie.Need-returns
 returns c =
     let a = (c .before .before .before) .args in

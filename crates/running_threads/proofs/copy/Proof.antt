@@ -18,43 +18,33 @@ Inv-loop work₀ from to w i₀ work i = (i ≤ w) × (length work ≡ length wo
 abbrev μ-loop : tie.MeasureT-loop
 μ-loop work₀ from to w i₀ work i = w - i
 
--- src/lib.rt:106:5
 loop-holds : tie.Need-loop-holds Inv-loop μ-loop
 loop-holds c = (omega arith, refl, (λ k lt. absurd (not-suc-le-zero lt)), only-refl)
 
--- src/lib.rt:107:29
 add-work : tie.Need-add-work Inv-loop μ-loop
 add-work c = search needs
 
--- src/lib.rt:107:24
 mul-work : tie.Need-mul-work Inv-loop μ-loop
 mul-work c = search needs
 
--- src/lib.rt:107:24
 slice-read-work : tie.Need-slice-read-work Inv-loop μ-loop
 slice-read-work c = search needs
 
--- src/lib.rt:107:14
 add-work-2 : tie.Need-add-work-2 Inv-loop μ-loop
 add-work-2 c = search needs
 
--- src/lib.rt:107:9
 mul-work-2 : tie.Need-mul-work-2 Inv-loop μ-loop
 mul-work-2 c = search needs
 
--- src/lib.rt:107:9
 slice-write-work : tie.Need-slice-write-work Inv-loop μ-loop
 slice-write-work c = search needs
 
--- src/lib.rt:108:9
 add-i : tie.Need-add-i Inv-loop μ-loop
 add-i c = search needs
 
--- src/lib.rt:106:5
 loop-less : tie.Need-loop-less Inv-loop μ-loop
 loop-less c = search needs
 
--- src/lib.rt:106:5
 loop-again : tie.Need-loop-again Inv-loop μ-loop
 loop-again c =
     let a = (c .before .before .before) in
@@ -66,11 +56,9 @@ loop-again c =
       only-set (h .i) _ (omega arith) (h .inv .3),
     )
 
--- src/lib.rt:101:1
 same-length : tie.Need-same-length Inv-loop μ-loop
 same-length c = (c .before .loop) .inv .1
 
--- src/lib.rt:101:1
 returns : tie.Need-returns Inv-loop μ-loop
 returns c =
     let h = (c .before .loop) in

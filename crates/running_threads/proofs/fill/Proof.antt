@@ -19,31 +19,24 @@ Inv-loop work₀ from n v i₀ work i = (i ≤ n) × (length work ≡ length wor
 abbrev μ-loop : tie.MeasureT-loop
 μ-loop work₀ from n v i₀ work i = n - i
 
--- src/lib.rt:118:5
 loop-holds : tie.Need-loop-holds Inv-loop μ-loop
 loop-holds c = (omega arith, refl, (λ k lt. absurd (not-suc-le-zero lt)), only-refl)
 
--- src/lib.rt:119:14
 add-work : tie.Need-add-work Inv-loop μ-loop
 add-work c = search needs
 
--- src/lib.rt:119:9
 mul-work : tie.Need-mul-work Inv-loop μ-loop
 mul-work c = search needs
 
--- src/lib.rt:119:9
 slice-write-work : tie.Need-slice-write-work Inv-loop μ-loop
 slice-write-work c = search needs
 
--- src/lib.rt:120:9
 add-i : tie.Need-add-i Inv-loop μ-loop
 add-i c = search needs
 
--- src/lib.rt:118:5
 loop-less : tie.Need-loop-less Inv-loop μ-loop
 loop-less c = search needs
 
--- src/lib.rt:118:5
 loop-again : tie.Need-loop-again Inv-loop μ-loop
 loop-again c =
     let a = (c .before .before) in
@@ -54,11 +47,9 @@ loop-again c =
       only-set (h .i) _ (omega arith) (h .inv .3),
     )
 
--- src/lib.rt:113:1
 same-length : tie.Need-same-length Inv-loop μ-loop
 same-length c = (c .before .loop) .inv .1
 
--- src/lib.rt:113:1
 returns : tie.Need-returns Inv-loop μ-loop
 returns c =
     let a = (c .before .before) in

@@ -24,13 +24,11 @@ Inv-loop work₀ l r d0 from to s₀ d₀ work s d =
 abbrev μ-loop : tie.MeasureT-loop
 μ-loop work₀ l r d0 from to s₀ d₀ work s d = to - s
 
--- src/lib.rt:92:5
 loop-holds : tie.Need-loop-holds Inv-loop μ-loop
 loop-holds c =
     let a = (c .before) in
     (omega arith, omega arith, refl, refl, refl, a .pre .3, apart-refl, inr refl)
 
--- src/lib.rt:93:9
 write-requires : tie.Need-write-requires Inv-loop μ-loop
 write-requires c κs =
     let a = (c .before .before .before .before) in
@@ -42,19 +40,15 @@ write-requires c κs =
       h .inv .5,
     )
 
--- src/lib.rt:94:9
 add-s : tie.Need-add-s Inv-loop μ-loop
 add-s c = search needs
 
--- src/lib.rt:95:9
 add-d : tie.Need-add-d Inv-loop μ-loop
 add-d c = omega arith
 
--- src/lib.rt:92:5
 loop-less : tie.Need-loop-less Inv-loop μ-loop
 loop-less c = search needs
 
--- src/lib.rt:92:5
 loop-again : tie.Need-loop-again Inv-loop μ-loop
 loop-again c =
     let a = (c .before .before .before .before .before .before .before) in
@@ -72,11 +66,9 @@ loop-again c =
       inl (omega arith),
     )
 
--- src/lib.rt:86:1
 same-length : tie.Need-same-length Inv-loop μ-loop
 same-length c = (c .before .loop) .inv .2
 
--- src/lib.rt:86:1
 returns : tie.Need-returns Inv-loop μ-loop
 returns c =
     let a = (c .before .before .before) in

@@ -7,67 +7,51 @@ use Rattle.running_threads.proofs.write.Tie as tie
 use Rattle.running_threads.proofs.write.Reads as reads
 use Rattle.running_threads.proofs.write.Lts as lts
 
--- src/lib.rt:80:23
 add-work : tie.Need-add-work
 add-work c = search needs
 
--- src/lib.rt:80:22
 cast-work : tie.Need-cast-work
 cast-work c = search needs
 
--- src/lib.rt:80:10
 add-work-2 : tie.Need-add-work-2
 add-work-2 c = search needs
 
--- src/lib.rt:80:5
 mul-work : tie.Need-mul-work
 mul-work c = search needs
 
--- src/lib.rt:80:5
 slice-write-work : tie.Need-slice-write-work
 slice-write-work c = search needs
 
--- src/lib.rt:81:27
 add-work-3 : tie.Need-add-work-3
 add-work-3 c = search needs
 
--- src/lib.rt:81:22
 mul-work-2 : tie.Need-mul-work-2
 mul-work-2 c = search needs
 
--- src/lib.rt:81:22
 slice-read-work : tie.Need-slice-read-work
 slice-read-work c = simp length-set (omega arith)
 
--- src/lib.rt:81:10
 add-work-4 : tie.Need-add-work-4
 add-work-4 c = search needs
 
--- src/lib.rt:81:5
 mul-work-3 : tie.Need-mul-work-3
 mul-work-3 c = search needs
 
--- src/lib.rt:81:5
 slice-write-work-2 : tie.Need-slice-write-work-2
 slice-write-work-2 c = simp length-set (omega arith)
 
--- src/lib.rt:82:10
 add-work-5 : tie.Need-add-work-5
 add-work-5 c = search needs
 
--- src/lib.rt:82:5
 mul-work-4 : tie.Need-mul-work-4
 mul-work-4 c = search needs
 
--- src/lib.rt:82:5
 slice-write-work-3 : tie.Need-slice-write-work-3
 slice-write-work-3 c = simp length-set (omega arith)
 
--- src/lib.rt:73:1
 same-length : tie.Need-same-length
 same-length c = search needs
 
--- src/lib.rt:73:1
 returns : tie.Need-returns
 returns c =
     let a = (c .before) .args in

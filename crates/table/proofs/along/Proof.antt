@@ -35,30 +35,24 @@ root-requires c κs =
     let f = first (p .row) (p .some) in
     omega (arith, f .1 .some, f .1 .few, f .1 .room)
 
--- src/lib.rt:96:20
 sub-left : tie.Need-sub-left Inv-loop μ-loop
 sub-left c = omega (arith, c .before .before .pre .some)
 
--- src/lib.rt:97:5
 loop-holds : tie.Need-loop-holds Inv-loop μ-loop
 loop-holds c =
     λ before l row. let f = first row (c .before .before .pre .some) in rw (c .root .ensures, f .1 .root) (f .2)
 
--- src/lib.rt:98:22
 cast-passed : tie.Need-cast-passed Inv-loop μ-loop
 cast-passed c = omega (arith, turning (c .before) .here .some, turning (c .before) .here .few)
 
--- src/lib.rt:99:39
 sub-root : tie.Need-sub-root Inv-loop μ-loop
 sub-root c = omega (arith, turning (c .before) .here .some, turning (c .before) .here .few)
 
--- src/lib.rt:99:27
 root-requires-2 : tie.Need-root-requires-2 Inv-loop μ-loop
 root-requires-2 c κs =
     let t = turning (c .before) .here in
     omega (arith, t .some, t .few, t .room)
 
--- src/lib.rt:99:13
 beside-requires : tie.Need-beside-requires Inv-loop μ-loop
 beside-requires c κs =
     let t = turning (c .before .before) in
@@ -74,15 +68,12 @@ beside-requires c κs =
       right = t .small;
     }
 
--- src/lib.rt:101:9
 sub-left-2 : tie.Need-sub-left-2 Inv-loop μ-loop
 sub-left-2 c = search needs
 
--- src/lib.rt:97:5
 loop-less : tie.Need-loop-less Inv-loop μ-loop
 loop-less c = search needs
 
--- src/lib.rt:97:5
 loop-again : tie.Need-loop-again Inv-loop μ-loop
 loop-again c =
     λ before l row.
@@ -92,7 +83,6 @@ loop-again c =
     (c .before .root2 .ensures ∙ t .here .root) in
     rw both (t .walk)
 
--- src/lib.rt:91:1
 returns : tie.Need-returns Inv-loop μ-loop
 returns c = record { by = λ before l row. over (c .before .loop .inv before l row) (c .loop-test .left) }
 

@@ -7,27 +7,21 @@ use Rattle.table.proofs.capped.Reads as capped-reads
 use Rattle.table.proofs.first_with.Reads as first-with-reads
 use Rattle.table.proofs.higher.Reads as higher-reads
 
--- src/lib.rt:82:18
 add-t3 : tie.Need-add-t3
 add-t3 c = search needs
 
--- src/lib.rt:83:22
 add-capped : tie.Need-add-capped
 add-capped c = search needs
 
--- src/lib.rt:83:15
 capped-requires : tie.Need-capped-requires
 capped-requires c κs = search needs
 
--- src/lib.rt:84:17
 first-with-requires : tie.Need-first-with-requires
 first-with-requires c κs = search needs
 
--- src/lib.rt:85:18
 higher-requires : tie.Need-higher-requires
 higher-requires c κs = search needs
 
--- src/lib.rt:77:1
 returns : tie.Need-returns
 returns c = cc
 

@@ -9,49 +9,38 @@ use Rattle.table.proofs.closed_size.Lts as lts
 use Rattle.table.proofs.capped.Reads as capped-reads
 use Rattle.table.proofs.turns.Reads as turns-reads
 
--- src/lib.rt:124:23
 add-capped : tie.Need-add-capped
 add-capped c = search needs
 
--- src/lib.rt:124:9
 capped-requires : tie.Need-capped-requires
 capped-requires c κs = search needs
 
--- src/lib.rt:124:9
 returns : tie.Need-returns
 returns c = rw (eq-eqb _ _ (c .before .if1 .taken)) (c .capped .ensures)
 
--- src/lib.rt:127:35
 sub-capped : tie.Need-sub-capped
 sub-capped c = search needs
 
--- src/lib.rt:127:30
 mul-capped : tie.Need-mul-capped
 mul-capped c = search needs
 
--- src/lib.rt:127:23
 add-capped-2 : tie.Need-add-capped-2
 add-capped-2 c = search needs
 
--- src/lib.rt:127:9
 capped-requires-2 : tie.Need-capped-requires-2
 capped-requires-2 c κs = search needs
 
--- src/lib.rt:127:9
 returns-2 : tie.Need-returns-2
 returns-2 c = rw (ne-eqb _ _ (c .before .before .if1 .left), eq-eqb _ _ (c .before .if2 .taken)) (c .capped2 .ensures)
 
--- src/lib.rt:130:23
 turns-requires : tie.Need-turns-requires
 turns-requires c κs =
     let f = c .before .before .before .pre .counts (c .if3 .taken) in
     (c .before .before .before .pre .small, f .0, f .1)
 
--- src/lib.rt:130:9
 capped-requires-3 : tie.Need-capped-requires-3
 capped-requires-3 c κs = search needs
 
--- src/lib.rt:130:9
 returns-3 : tie.Need-returns-3
 returns-3 c =
     rw (
@@ -62,11 +51,9 @@ returns-3 c =
     )
     (c .capped3 .ensures ∙ ap capped (c .before .turns .ensures))
 
--- src/lib.rt:132:5
 capped-requires-4 : tie.Need-capped-requires-4
 capped-requires-4 c κs = search needs
 
--- src/lib.rt:119:1
 returns-4 : tie.Need-returns-4
 returns-4 c =
     rw (

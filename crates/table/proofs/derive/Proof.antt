@@ -10,40 +10,32 @@ use Rattle.table.proofs.closed_size.Reads as closed-size-reads
 use Rattle.table.proofs.higher.Reads as higher-reads
 use Rattle.table.proofs.leaf.Reads as leaf-reads
 
--- src/lib.rt:154:9
 leaf-requires : tie.Need-leaf-requires
 leaf-requires c κs = search needs
 
--- src/lib.rt:154:9
 returns : tie.Need-returns
 returns c = rw (c .leaf .ensures) (leaf-derives (c .before .if1 .taken))
 
--- src/lib.rt:156:9
 along-requires : tie.Need-along-requires
 along-requires c κs = some-row (c .before .before .pre) (c .if1 .left)
 
--- src/lib.rt:157:9
 closed-size-requires : tie.Need-closed-size-requires
 closed-size-requires c κs = closing (c .before .before .before .pre) (c .before .if1 .left) (c .along .ensures)
 
--- src/lib.rt:158:19
 add-records : tie.Need-add-records
 add-records c =
     let s = c .before .before .before .before .before .pre in
     omega (arith, records-fit s (c .before .before .before .if1 .left) (c .before .before .along .ensures), s .made .row .low)
 
--- src/lib.rt:164:22
 higher-requires : tie.Need-higher-requires
 higher-requires c κs = search needs
 
--- src/lib.rt:160:9
 returns-2 : tie.Need-returns-2
 returns-2 c =
     group-derives (c .before .before .before .before .before .if1 .left) (c .before .before .before .before .along .ensures)
     (c .before .if2 .taken)
     (c .before .before .before .closed-size .ensures) (c .higher .ensures)
 
--- src/lib.rt:149:1
 returns-3 : tie.Need-returns-3
 returns-3 c =
     other-derives (c .before .before .before .before .if1 .left) (c .before .before .before .along .ensures) (c .if2 .left)

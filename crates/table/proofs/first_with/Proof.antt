@@ -5,11 +5,9 @@ use Rattle.table.proofs.first_with.Tie as tie
 use Rattle.table.proofs.first_with.Reads as reads
 use Rattle.table.proofs.first_with.Lts as lts
 
--- src/lib.rt:63:1
 returns : tie.Need-returns
 returns c = search needs
 
--- src/lib.rt:63:1
 returns-2 : tie.Need-returns-2
 returns-2 c = lower-some _ _ _ (c .if1 .left)
 

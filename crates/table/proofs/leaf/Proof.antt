@@ -4,11 +4,9 @@ use Rattle.table.proofs.leaf.Tie as tie
 use Rattle.table.proofs.leaf.Reads as reads
 use Rattle.table.proofs.leaf.Lts as lts
 
--- src/lib.rt:136:1
 returns : tie.Need-returns
 returns c = rw (eq-eqb _ _ (c .if1 .taken))
 
--- src/lib.rt:136:1
 returns-2 : tie.Need-returns-2
 returns-2 c = rw (ne-eqb _ _ (c .if1 .left))
 

@@ -7,63 +7,48 @@ use Rattle.table.proofs.put.Lts as lts
 use Rattle.table.proofs.copy.Reads as copy-reads
 use Rattle.table.proofs.derive.Reads as derive-reads
 
--- src/lib.rt:193:54
 array-read-derive : tie.Need-array-read-derive
 array-read-derive c = search needs
 
--- src/lib.rt:193:63
 array-read-derive-2 : tie.Need-array-read-derive-2
 array-read-derive-2 c = search needs
 
--- src/lib.rt:193:9
 derive-requires : tie.Need-derive-requires
 derive-requires c κs = search needs
 
--- src/lib.rt:196:9
 array-read-t14 : tie.Need-array-read-t14
 array-read-t14 c = search needs
 
--- src/lib.rt:196:18
 array-read-t17 : tie.Need-array-read-t17
 array-read-t17 c = search needs
 
--- src/lib.rt:196:27
 array-read-t24 : tie.Need-array-read-t24
 array-read-t24 c = search needs
 
--- src/lib.rt:196:36
 array-read-t27 : tie.Need-array-read-t27
 array-read-t27 c = search needs
 
--- src/lib.rt:196:45
 array-read-t30 : tie.Need-array-read-t30
 array-read-t30 c = search needs
 
--- src/lib.rt:196:54
 array-read-t33 : tie.Need-array-read-t33
 array-read-t33 c = search needs
 
--- src/lib.rt:196:63
 array-read-t36 : tie.Need-array-read-t36
 array-read-t36 c = search needs
 
--- src/lib.rt:196:72
 array-read-t39 : tie.Need-array-read-t39
 array-read-t39 c = search needs
 
--- src/lib.rt:198:17
 mul-copy : tie.Need-mul-copy
 mul-copy c = search needs
 
--- src/lib.rt:198:5
 copy-requires : tie.Need-copy-requires
 copy-requires c κs = search needs
 
--- src/lib.rt:189:1
 same-length : tie.Need-same-length
 same-length c = search needs
 
--- src/lib.rt:189:1
 returns : tie.Need-returns
 returns c =
     let p = c .before .before .before .before .before .before .before .before .pre in

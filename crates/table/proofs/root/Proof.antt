@@ -5,23 +5,18 @@ use Rattle.table.proofs.root.Reads as reads
 use Rattle.table.proofs.root.Lts as lts
 use Rattle.table.proofs.word.Reads as word-reads
 
--- src/lib.rt:48:18
 word-requires : tie.Need-word-requires
 word-requires c κs = search needs
 
--- src/lib.rt:49:15
 word-requires-2 : tie.Need-word-requires-2
 word-requires-2 c κs = search needs
 
--- src/lib.rt:50:17
 word-requires-3 : tie.Need-word-requires-3
 word-requires-3 c κs = search needs
 
--- src/lib.rt:51:18
 word-requires-4 : tie.Need-word-requires-4
 word-requires-4 c κs = search needs
 
--- src/lib.rt:43:1
 returns : tie.Need-returns
 returns c = cc
 

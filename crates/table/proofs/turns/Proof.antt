@@ -8,11 +8,9 @@ use Rattle.table.proofs.turns.Tie as tie
 use Rattle.table.proofs.turns.Reads as reads
 use Rattle.table.proofs.turns.Lts as lts
 
--- src/lib.rt:111:27
 add-forced : tie.Need-add-forced
 add-forced c = search needs
 
--- src/lib.rt:111:18
 mul-forced : tie.Need-mul-forced
 mul-forced c =
     let a = c .args in
@@ -20,11 +18,9 @@ mul-forced c =
     let s : a .size + 1 ≤ 1026 = omega arith in
     omega (arith, mul-le-mul l s)
 
--- src/lib.rt:113:26
 add-result : tie.Need-add-result
 add-result c = search needs
 
--- src/lib.rt:113:16
 add-result-2 : tie.Need-add-result-2
 add-result-2 c =
     let a = c .before .args in
@@ -32,19 +28,15 @@ add-result-2 c =
     let s : a .size + 1 ≤ 1026 = omega arith in
     omega (arith, mul-le-mul l s)
 
--- src/lib.rt:113:9
 returns : tie.Need-returns
 returns c = rw (eq-eqb _ _ (c .if1 .taken))
 
--- src/lib.rt:115:15
 sub-result : tie.Need-sub-result
 sub-result c = search needs
 
--- src/lib.rt:115:32
 add-result-3 : tie.Need-add-result-3
 add-result-3 c = search needs
 
--- src/lib.rt:115:14
 mul-result : tie.Need-mul-result
 mul-result c =
     let a = c .before .args in
@@ -52,7 +44,6 @@ mul-result c =
     let s : a .size + 4 ≤ 1029 = omega arith in
     omega (arith, mul-le-mul l s)
 
--- src/lib.rt:115:5
 add-result-4 : tie.Need-add-result-4
 add-result-4 c =
     let a = c .before .args in
@@ -62,7 +53,6 @@ add-result-4 c =
     let z : a .size + 4 ≤ 1029 = omega arith in
     omega (arith, mul-le-mul l s, mul-le-mul m z)
 
--- src/lib.rt:107:1
 returns-2 : tie.Need-returns-2
 returns-2 c = rw (ne-eqb _ _ (c .if1 .left))
 

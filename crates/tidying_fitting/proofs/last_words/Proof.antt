@@ -7,39 +7,30 @@ use Rattle.tidying_fitting.proofs.last_words.Reads as reads
 use Rattle.tidying_fitting.proofs.last_words.Lts as lts
 use Rattle.table.proofs.word.Reads as word-reads
 
--- src/lib.rt:71:9
 word-requires : tie.Need-word-requires
 word-requires c κs = omega (arith, asked ((c .before) .pre))
 
--- src/lib.rt:72:9
 word-requires-2 : tie.Need-word-requires-2
 word-requires-2 c κs = omega (arith, asked ((c .before .before) .pre))
 
--- src/lib.rt:73:9
 word-requires-3 : tie.Need-word-requires-3
 word-requires-3 c κs = omega (arith, asked ((c .before .before .before) .pre))
 
--- src/lib.rt:74:9
 word-requires-4 : tie.Need-word-requires-4
 word-requires-4 c κs = omega (arith, asked ((c .before .before .before .before) .pre))
 
--- src/lib.rt:75:9
 word-requires-5 : tie.Need-word-requires-5
 word-requires-5 c κs = omega (arith, asked ((c .before .before .before .before .before) .pre))
 
--- src/lib.rt:76:9
 word-requires-6 : tie.Need-word-requires-6
 word-requires-6 c κs = omega (arith, asked ((c .before .before .before .before .before .before) .pre))
 
--- src/lib.rt:77:9
 word-requires-7 : tie.Need-word-requires-7
 word-requires-7 c κs = omega (arith, asked ((c .before .before .before .before .before .before .before) .pre))
 
--- src/lib.rt:78:9
 word-requires-8 : tie.Need-word-requires-8
 word-requires-8 c κs = omega (arith, asked ((c .before .before .before .before .before .before .before .before) .pre))
 
--- src/lib.rt:66:1
 returns : tie.Need-returns
 returns c =
     last-told ((c .before .before .before .before .before .before .before .word) .ensures)

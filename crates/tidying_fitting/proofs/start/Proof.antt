@@ -10,19 +10,15 @@ use Rattle.tidying_fitting.proofs.start.Reads as reads
 use Rattle.tidying_fitting.proofs.start.Lts as lts
 use Rattle.tidying_fitting.proofs.own.Reads as own-reads
 
--- src/lib.rt:61:9
 own-requires : tie.Need-own-requires
 own-requires c κs = search needs
 
--- src/lib.rt:62:11
 cast-result : tie.Need-cast-result
 cast-result c = search needs
 
--- src/lib.rt:62:5
 sub-result : tie.Need-sub-result
 sub-result c = few-told ((c .before .own) .ensures) ((c .before .before .before) .pre)
 
--- src/lib.rt:57:1
 returns : tie.Need-returns
 returns c = start-told ((c .before .own) .ensures) refl
 

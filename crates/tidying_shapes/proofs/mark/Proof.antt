@@ -6,51 +6,39 @@ use Rattle.tidying_shapes.proofs.mark.Reads as reads
 use Rattle.tidying_shapes.proofs.mark.Lts as lts
 use Rattle.tidying_shapes.proofs.copy.Reads as copy-reads
 
--- src/lib.rt:57:46
 array-read-t11 : tie.Need-array-read-t11
 array-read-t11 c = search needs
 
--- src/lib.rt:57:55
 array-read-t14 : tie.Need-array-read-t14
 array-read-t14 c = search needs
 
--- src/lib.rt:57:64
 array-read-t17 : tie.Need-array-read-t17
 array-read-t17 c = search needs
 
--- src/lib.rt:57:73
 array-read-t20 : tie.Need-array-read-t20
 array-read-t20 c = search needs
 
--- src/lib.rt:57:82
 array-read-t23 : tie.Need-array-read-t23
 array-read-t23 c = search needs
 
--- src/lib.rt:57:91
 array-read-t26 : tie.Need-array-read-t26
 array-read-t26 c = search needs
 
--- src/lib.rt:57:100
 array-read-t29 : tie.Need-array-read-t29
 array-read-t29 c = search needs
 
--- src/lib.rt:57:109
 array-read-t32 : tie.Need-array-read-t32
 array-read-t32 c = search needs
 
--- src/lib.rt:59:17
 mul-copy : tie.Need-mul-copy
 mul-copy c = search needs
 
--- src/lib.rt:59:5
 copy-requires : tie.Need-copy-requires
 copy-requires c κs = search needs
 
--- src/lib.rt:52:1
 same-length : tie.Need-same-length
 same-length c = search needs
 
--- src/lib.rt:52:1
 returns : tie.Need-returns
 returns c =
     let start = c .before .before .before .before .before .before in

@@ -6,27 +6,21 @@ use Rattle.tidying_shapes.proofs.set_items.Tie as tie
 use Rattle.tidying_shapes.proofs.set_items.Reads as reads
 use Rattle.tidying_shapes.proofs.set_items.Lts as lts
 
--- src/lib.rt:67:11
 mul-table : tie.Need-mul-table
 mul-table c = search needs
 
--- src/lib.rt:67:11
 add-table : tie.Need-add-table
 add-table c = search needs
 
--- src/lib.rt:67:5
 mul-table-2 : tie.Need-mul-table-2
 mul-table-2 c = search needs
 
--- src/lib.rt:67:5
 slice-write-table : tie.Need-slice-write-table
 slice-write-table c = search needs
 
--- src/lib.rt:63:1
 same-length : tie.Need-same-length
 same-length c = search needs
 
--- src/lib.rt:63:1
 returns : tie.Need-returns
 returns c = counted (c .args .at) (c .args .items) (c .pre) refl
 

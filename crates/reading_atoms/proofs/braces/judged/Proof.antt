@@ -1,8 +1,7 @@
 -- Each return goes by the tests that led there.
 use native.Mathlib.Omega.{arith}
 use borrow.Author.Tests.{lt-ltb, le-ltb, ne-eqb}
-use Rattle.meaning.specs.Limits.{countLimit}
-use Rattle.reading_atoms.specs.Answers.{noMaximum}
+use Rattle.meaning.specs.Limits.{countLimit, noMaximum}
 use Rattle.reading_atoms.proofs.braces.judged.Statement.{statement}
 use Rattle.reading_atoms.proofs.braces.judged.Tie as tie
 

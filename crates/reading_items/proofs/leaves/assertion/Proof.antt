@@ -6,19 +6,15 @@ use Rattle.reading_items.proofs.leaves.assertion.Reads as reads
 use Rattle.reading_items.proofs.leaves.assertion.Lts as lts
 use Rattle.table.proofs.put.Reads as put-reads
 
--- src/leaves.rt:34:5
 put-requires : tie.Need-put-requires
 put-requires c κs = assert-putting ((c .before .before) .args .number) ((c .before .before) .pre)
 
--- src/leaves.rt:35:26
 add-t10 : tie.Need-add-t10
 add-t10 c = search needs
 
--- src/leaves.rt:30:1
 same-length : tie.Need-same-length
 same-length c = search needs
 
--- src/leaves.rt:30:1
 returns : tie.Need-returns
 returns c = assert-meets ((c .before .before .before .before .before) .args .at)
     ((c .before .before .before .before .before) .args .groups) ((c .before .before .before .before .before) .pre)

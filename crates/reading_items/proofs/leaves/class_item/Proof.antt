@@ -12,11 +12,9 @@ use Rattle.reading_items.proofs.leaves.class_item.Lts as lts
 use Rattle.reading_atoms.proofs.class_at.Reads as class-at-reads
 use Rattle.reading_items.proofs.leaves.set_item.Reads as set-item-reads
 
--- src/leaves.rt:43:9
 class-at-requires : tie.Need-class-at-requires
 class-at-requires c κs = search needs
 
--- src/leaves.rt:46:9
 set-item-requires : tie.Need-set-item-requires
 set-item-requires c κs =
     let a = (c .before .before .before .before .before .before) .args in
@@ -26,11 +24,9 @@ set-item-requires c κs =
     let fits = class-holds (a .s .now) (a .at) (p .0 .bytes) holding in
     (fine-on ((c .before .before .before .class-at) .result .end) (p .0) (omega (arith, fits .1)) (fits .2), fits .0)
 
--- src/leaves.rt:46:9
 same-length : tie.Need-same-length
 same-length c = search needs
 
--- src/leaves.rt:46:9
 returns : tie.Need-returns
 returns c =
     let a = (c .before .before .before .before .before .before .before .before .before) .args in
@@ -41,7 +37,6 @@ returns c =
     ((c .before .before .before .before .before .before .class-at) .ensures)
     ((c .before .before .before .before .before .if1) .taken))) ((c .before .before .set-item) .ensures)
 
--- src/leaves.rt:39:1
 returns-2 : tie.Need-returns-2
 returns-2 c =
     let a = (c .before .before .before .before) .args in

@@ -22,19 +22,15 @@ use Rattle.reading_atoms.proofs.escape_at.Reads as escape-at-reads
 use Rattle.reading_items.proofs.leaves.assertion.Reads as assertion-reads
 use Rattle.reading_items.proofs.leaves.set_item.Reads as set-item-reads
 
--- src/leaves.rt:56:11
 escape-at-requires : tie.Need-escape-at-requires
 escape-at-requires c κs = search needs
 
--- src/leaves.rt:57:22
 enum-known-b : tie.Need-enum-known-b
 enum-known-b c = search needs
 
--- src/leaves.rt:57:70
 literal-set-requires : tie.Need-literal-set-requires
 literal-set-requires c κs = search needs
 
--- src/leaves.rt:57:33
 set-item-requires : tie.Need-set-item-requires
 set-item-requires c κs =
     let a = (c .before .before .before .before .before .before .before .before) .args in
@@ -47,15 +43,12 @@ set-item-requires c κs =
           ((c .literal-set) .ensures) (setOf-holds (takes ((c .before .before .before .b) .given .0 .0)) .formed),
     )
 
--- src/leaves.rt:58:23
 enum-known-k : tie.Need-enum-known-k
 enum-known-k c = search needs
 
--- src/leaves.rt:58:41
 add-set-item : tie.Need-add-set-item
 add-set-item c = search needs
 
--- src/leaves.rt:58:69
 named-set-requires : tie.Need-named-set-requires
 named-set-requires c κs =
     let a = (c .before .before .before .before .before .before .before) .args in
@@ -63,7 +56,6 @@ named-set-requires c κs =
     escape-named false (a .s .now) (a .at) (p .0 .bytes)
     (sym ((c .before .before .before .before .escape-at) .ensures) ∙ ap escapeOf ((c .before .before .k) .given .1)) .0
 
--- src/leaves.rt:58:29
 set-item-requires-2 : tie.Need-set-item-requires-2
 set-item-requires-2 c κs =
     let a = (c .before .before .before .before .before .before .before .before) .args in
@@ -76,27 +68,21 @@ set-item-requires-2 c κs =
           (setOf-holds (inEscape ((c .before .before .before .k) .given .0 .0)) .formed),
     )
 
--- src/leaves.rt:59:27
 enum-known-number : tie.Need-enum-known-number
 enum-known-number c = search needs
 
--- src/leaves.rt:59:48
 add-assertion : tie.Need-add-assertion
 add-assertion c = search needs
 
--- src/leaves.rt:59:38
 assertion-requires : tie.Need-assertion-requires
 assertion-requires c κs = search needs
 
--- src/leaves.rt:60:23
 enum-known-number-2 : tie.Need-enum-known-number-2
 enum-known-number-2 c = search needs
 
--- src/leaves.rt:52:1
 same-length : tie.Need-same-length
 same-length c = search needs
 
--- src/leaves.rt:52:1
 returns : tie.Need-returns
 returns c =
     let a = (c .before .before .before .before .before .before .before .before .before .before .before) .args in
@@ -109,11 +95,9 @@ returns c =
     ∙ ap (λ set. setItem (a .s .now) set ((c .before .before .before .before .before .before .b) .given .0 .1 .0) (a .groups))
     (sym ((c .before .before .before .literal-set) .ensures))) ((c .before .before .set-item) .ensures)
 
--- src/leaves.rt:52:1
 same-length-2 : tie.Need-same-length-2
 same-length-2 c = search needs
 
--- src/leaves.rt:52:1
 returns-2 : tie.Need-returns-2
 returns-2 c =
     let a = (c .before .before .before .before .before .before .before .before .before .before .before) .args in
@@ -125,11 +109,9 @@ returns-2 c =
     ∙ ap (λ set. setItem (a .s .now) set (a .at + 2) (a .groups)) (sym ((c .before .before .before .named-set) .ensures)))
     ((c .before .before .set-item2) .ensures)
 
--- src/leaves.rt:52:1
 same-length-3 : tie.Need-same-length-3
 same-length-3 c = search needs
 
--- src/leaves.rt:52:1
 returns-3 : tie.Need-returns-3
 returns-3 c =
     let a = (c .before .before .before .before .before .before .before .before .before .before) .args in
@@ -140,7 +122,6 @@ returns-3 c =
     ∙ ap escapeOf ((c .before .before .before .before .before .number) .given .1)))
     ((c .before .before .assertion) .ensures)
 
--- src/leaves.rt:52:1
 returns-4 : tie.Need-returns-4
 returns-4 c =
     let a = (c .before .before .before .before .before .before) .args in

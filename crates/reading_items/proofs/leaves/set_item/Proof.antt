@@ -12,15 +12,12 @@ use Rattle.reading_items.proofs.leaves.set_item.Lts as lts
 use Rattle.reading_items.proofs.parts.quantified.Reads as quantified-reads
 use Rattle.table.proofs.put.Reads as put-reads
 
--- src/leaves.rt:25:5
 put-requires : tie.Need-put-requires
 put-requires c κs = set-putting ((c .before .before .before) .pre .1) (fine-room ((c .before .before .before) .pre .0))
 
--- src/leaves.rt:26:38
 add-quantified : tie.Need-add-quantified
 add-quantified c = search needs
 
--- src/leaves.rt:26:5
 quantified-requires : tie.Need-quantified-requires
 quantified-requires c κs =
     let p = (c .before .before .before .before .before .before .before) .pre in
@@ -36,11 +33,9 @@ quantified-requires c κs =
       },
     )
 
--- src/leaves.rt:21:1
 same-length : tie.Need-same-length
 same-length c = search needs
 
--- src/leaves.rt:21:1
 returns : tie.Need-returns
 returns c =
     let p = (c .before .before .before .before .before .before .before .before .before .before) .pre in

@@ -24,15 +24,12 @@ use Rattle.reading_items.proofs.leaves.escape_item.Reads as escape-item
 use Rattle.reading_items.proofs.leaves.set_item.Reads as set-item-reads
 use Rattle.reading_items.proofs.words.is_quantifier.Reads as is-quantifier-reads
 
--- src/leaves.rt:70:13
 shared-slice-read-b : tie.Need-shared-slice-read-b
 shared-slice-read-b c = search needs
 
--- src/leaves.rt:71:8
 is-quantifier-requires : tie.Need-is-quantifier-requires
 is-quantifier-requires c κs = search needs
 
--- src/leaves.rt:72:9
 returns : tie.Need-returns
 returns c =
     let a = (c .before .before .before .before .before) .args in
@@ -40,54 +37,42 @@ returns c =
     meet-no (no-atom (a .s .now) (a .at) (a .groups) (p .1) _ refl
     (sym ((c .before .is-quantifier) .ensures) ∙ (c .if1) .taken)) (omega arith)
 
--- src/leaves.rt:75:17
 class-item-requires : tie.Need-class-item-requires
 class-item-requires c κs = search needs
 
--- src/leaves.rt:76:18
 escape-item-requires : tie.Need-escape-item-requires
 escape-item-requires c κs = search needs
 
--- src/leaves.rt:77:29
 add-set-item : tie.Need-add-set-item
 add-set-item c = search needs
 
--- src/leaves.rt:77:57
 dot-set-requires : tie.Need-dot-set-requires
 dot-set-requires c κs = search needs
 
--- src/leaves.rt:77:17
 set-item-requires : tie.Need-set-item-requires
 set-item-requires c κs =
     let a = (c .before .before .before .before .before .before .before .before) .args in
     let p = (c .before .before .before .before .before .before .before .before) .pre in
     (fine-on (a .at + 1) (p .0) (omega arith) (omega (arith, p .1)), rw ((c .dot-set) .ensures) (setOf-holds isDot .formed))
 
--- src/leaves.rt:78:27
 add-assertion : tie.Need-add-assertion
 add-assertion c = search needs
 
--- src/leaves.rt:78:17
 assertion-requires : tie.Need-assertion-requires
 assertion-requires c κs = search needs
 
--- src/leaves.rt:79:27
 add-assertion-2 : tie.Need-add-assertion-2
 add-assertion-2 c = search needs
 
--- src/leaves.rt:79:17
 assertion-requires-2 : tie.Need-assertion-requires-2
 assertion-requires-2 c κs = search needs
 
--- src/leaves.rt:81:26
 add-set-item-2 : tie.Need-add-set-item-2
 add-set-item-2 c = search needs
 
--- src/leaves.rt:81:54
 literal-set-requires : tie.Need-literal-set-requires
 literal-set-requires c κs = search needs
 
--- src/leaves.rt:81:14
 set-item-requires-2 : tie.Need-set-item-requires-2
 set-item-requires-2 c κs =
     let a = (c .before .before .before .before .before .before .before .before) .args in
@@ -97,11 +82,9 @@ set-item-requires-2 c κs =
           (setOf-holds (takes (getD (a .s .now) (a .at) 0)) .formed),
     )
 
--- src/leaves.rt:66:1
 same-length : tie.Need-same-length
 same-length c = search needs
 
--- src/leaves.rt:66:1
 returns-2 : tie.Need-returns-2
 returns-2 c =
     let a = (c .before .before .before .before .before .before .before .before .before .before) .args in
@@ -109,11 +92,9 @@ returns-2 c =
     meet _ (class-item (a .s .now) (a .at) (a .groups) (p .1) ((c .before .before .before .before .match) .keys1))
     ((c .before .before .class-item) .ensures)
 
--- src/leaves.rt:66:1
 same-length-2 : tie.Need-same-length-2
 same-length-2 c = search needs
 
--- src/leaves.rt:66:1
 returns-3 : tie.Need-returns-3
 returns-3 c =
     let a = (c .before .before .before .before .before .before .before .before .before .before) .args in
@@ -121,11 +102,9 @@ returns-3 c =
     meet _ (escape-item (a .s .now) (a .at) (a .groups) (p .1) ((c .before .before .before .before .match) .keys2))
     ((c .before .before .escape-item) .ensures)
 
--- src/leaves.rt:66:1
 same-length-3 : tie.Need-same-length-3
 same-length-3 c = search needs
 
--- src/leaves.rt:66:1
 returns-4 : tie.Need-returns-4
 returns-4 c =
     let a = (c .before .before .before .before .before .before .before .before .before .before .before) .args in
@@ -135,11 +114,9 @@ returns-4 c =
     ∙ ap (λ set. setItem (a .s .now) set (a .at + 1) (a .groups)) (sym ((c .before .before .before .dot-set) .ensures)))
     ((c .before .before .set-item) .ensures)
 
--- src/leaves.rt:66:1
 same-length-4 : tie.Need-same-length-4
 same-length-4 c = search needs
 
--- src/leaves.rt:66:1
 returns-5 : tie.Need-returns-5
 returns-5 c =
     let a = (c .before .before .before .before .before .before .before .before .before .before) .args in
@@ -147,11 +124,9 @@ returns-5 c =
     meet _ (caret-item (a .s .now) (a .at) (a .groups) (p .1) ((c .before .before .before .before .match) .keys4))
     ((c .before .before .assertion) .ensures)
 
--- src/leaves.rt:66:1
 same-length-5 : tie.Need-same-length-5
 same-length-5 c = search needs
 
--- src/leaves.rt:66:1
 returns-6 : tie.Need-returns-6
 returns-6 c =
     let a = (c .before .before .before .before .before .before .before .before .before .before) .args in
@@ -159,7 +134,6 @@ returns-6 c =
     meet _ (dollar-item (a .s .now) (a .at) (a .groups) (p .1) ((c .before .before .before .before .match) .keys5))
     ((c .before .before .assertion2) .ensures)
 
--- src/leaves.rt:66:1
 returns-7 : tie.Need-returns-7
 returns-7 c =
     let a = (c .before .before .before .before .before .before) .args in
@@ -170,11 +144,9 @@ returns-7 c =
     (λ e. meet-no (stray-item (a .s .now) (a .at) (a .groups) (p .1) closeBrace refl refl refl refl refl refl refl refl e)
     (omega arith)) ((c .match) .keys6)
 
--- src/leaves.rt:66:1
 same-length-6 : tie.Need-same-length-6
 same-length-6 c = search needs
 
--- src/leaves.rt:66:1
 returns-8 : tie.Need-returns-8
 returns-8 c =
     let a = (c .before .before .before .before .before .before .before .before .before .before .before) .args in

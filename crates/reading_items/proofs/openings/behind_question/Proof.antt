@@ -8,41 +8,33 @@ use Rattle.reading_items.proofs.openings.behind_question.Lts as lts
 use Rattle.reading_atoms.proofs.byte_at.Reads as byte-at-reads
 use Rattle.reading_items.proofs.openings.is_look.Reads as is-look-reads
 
--- src/openings.rt:36:24
 add-byte-at : tie.Need-add-byte-at
 add-byte-at c = search needs
 
--- src/openings.rt:36:9
 byte-at-requires : tie.Need-byte-at-requires
 byte-at-requires c κs = search needs
 
--- src/openings.rt:37:8
 is-look-requires : tie.Need-is-look-requires
 is-look-requires c κs = search needs
 
--- src/openings.rt:38:9
 returns : tie.Need-returns
 returns c =
     let p = (c .before .before .before .before) .pre in
     left-out (p .0) (p .1) (sym (rw ((c .before .before .byte-at) .ensures) at ((c .before .is-look) .ensures))
     ∙ (c .if1) .taken)
 
--- src/openings.rt:41:9
 returns-2 : tie.Need-returns-2
 returns-2 c =
     let p = (c .before .before .before .before .before) .pre in
     question-deep (p .0) (p .1) (sym (rw ((c .before .before .before .byte-at) .ensures) at
     ((c .before .before .is-look) .ensures)) ∙ (c .before .if1) .left) ((c .if2) .taken)
 
--- src/openings.rt:43:13
 cast-if3 : tie.Need-cast-if3
 cast-if3 c = search needs
 
--- src/openings.rt:44:59
 add-t10 : tie.Need-add-t10
 add-t10 c = search needs
 
--- src/openings.rt:44:9
 returns-3 : tie.Need-returns-3
 returns-3 c =
     let p = (c .before .before .before .before .before .before) .pre in
@@ -50,11 +42,9 @@ returns-3 c =
     ((c .before .before .before .is-look) .ensures)) ∙ (c .before .before .if1) .left) ((c .before .if2) .left)
     (λ e. (c .if3) .taken ((c .before .before .before .before .byte-at) .ensures ∙ e))
 
--- src/openings.rt:46:29
 add-t6 : tie.Need-add-t6
 add-t6 c = search needs
 
--- src/openings.rt:32:1
 returns-4 : tie.Need-returns-4
 returns-4 c =
     let p = (c .before .before .before .before .before .before) .pre in

@@ -5,27 +5,21 @@ use Rattle.reading_items.proofs.openings.is_look.Tie as tie
 use Rattle.reading_items.proofs.openings.is_look.Reads as reads
 use Rattle.reading_items.proofs.openings.is_look.Lts as lts
 
--- src/openings.rt:27:13
 cast-if1 : tie.Need-cast-if1
 cast-if1 c = search needs
 
--- src/openings.rt:28:9
 returns : tie.Need-returns
 returns c = rw (eq-eqb _ _ ((c .if1) .taken))
 
--- src/openings.rt:30:13
 cast-if2 : tie.Need-cast-if2
 cast-if2 c = search needs
 
--- src/openings.rt:31:9
 returns-2 : tie.Need-returns-2
 returns-2 c = rw (ne-eqb _ _ ((c .before .if1) .left), eq-eqb _ _ ((c .if2) .taken))
 
--- src/openings.rt:33:10
 cast-result : tie.Need-cast-result
 cast-result c = search needs
 
--- src/openings.rt:24:1
 returns-3 : tie.Need-returns-3
 returns-3 c = rw (ne-eqb _ _ ((c .before .if1) .left), ne-eqb _ _ ((c .if2) .left))
 

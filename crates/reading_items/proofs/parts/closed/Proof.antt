@@ -10,27 +10,21 @@ use Rattle.reading_atoms.proofs.byte_at.Reads as byte-at-reads
 use Rattle.reading_items.proofs.parts.grouped.Reads as grouped-reads
 use Rattle.reading_items.proofs.parts.quantified.Reads as quantified-reads
 
--- src/parts.rt:48:8
 byte-at-requires : tie.Need-byte-at-requires
 byte-at-requires c κs = search needs
 
--- src/parts.rt:48:26
 cast-if1 : tie.Need-cast-if1
 cast-if1 c = search needs
 
--- src/parts.rt:49:9
 returns : tie.Need-returns
 returns c = unclosed (λ e. (c .if1) .taken ((c .before .byte-at) .ensures ∙ e))
 
--- src/parts.rt:51:9
 grouped-requires : tie.Need-grouped-requires
 grouped-requires c κs = search needs
 
--- src/parts.rt:52:19
 add-quantified : tie.Need-add-quantified
 add-quantified c = search needs
 
--- src/parts.rt:52:5
 quantified-requires : tie.Need-quantified-requires
 quantified-requires c κs =
     let p = (c .before .before .before .before .before .before .before .before .before) .pre in
@@ -43,11 +37,9 @@ quantified-requires c κs =
       some-group (p .1) ((c .before .before .before .grouped) .ensures),
     )
 
--- src/parts.rt:44:1
 same-length : tie.Need-same-length
 same-length c = search needs
 
--- src/parts.rt:44:1
 returns-2 : tie.Need-returns-2
 returns-2 c = closes (sym ((c .before .before .before .before .before .before .before .before .before .byte-at) .ensures)
     ∙ (c .before .before .before .before .before .before .before .before .if1) .left)

@@ -6,24 +6,19 @@ use Rattle.reading_items.proofs.parts.grouped.Reads as reads
 use Rattle.reading_items.proofs.parts.grouped.Lts as lts
 use Rattle.table.proofs.put.Reads as put-reads
 
--- src/parts.rt:36:9
 returns : tie.Need-returns
 returns c = no-group ((c .if1) .taken)
 
--- src/parts.rt:38:5
 put-requires : tie.Need-put-requires
 put-requires c κs = group-putting ((c .before .before .before) .args .group) ((c .before .before .before) .pre .0)
     ((c .before .before .before) .pre .1)
 
--- src/parts.rt:39:5
 add-result : tie.Need-add-result
 add-result c = search needs
 
--- src/parts.rt:31:1
 same-length : tie.Need-same-length
 same-length c = search needs
 
--- src/parts.rt:31:1
 returns-2 : tie.Need-returns-2
 returns-2 c = group-groups ((c .before .before .before .before .if1) .left)
     ((c .before .before .before .before .before .before) .pre .0) ((c .before .before .put) .ensures)

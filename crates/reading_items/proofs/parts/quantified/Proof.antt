@@ -7,27 +7,21 @@ use Rattle.reading_items.proofs.parts.quantified.Lts as lts
 use Rattle.reading_atoms.proofs.quantifier_at.Reads as quantifier-at-reads
 use Rattle.table.proofs.put.Reads as put-reads
 
--- src/parts.rt:20:11
 quantifier-at-requires : tie.Need-quantifier-at-requires
 quantifier-at-requires c κs = search needs
 
--- src/parts.rt:21:29
 enum-told : tie.Need-enum-told
 enum-told c = search needs
 
--- src/parts.rt:22:31
 enum-known-number : tie.Need-enum-known-number
 enum-known-number c = search needs
 
--- src/parts.rt:23:32
 enum-known-min : tie.Need-enum-known-min
 enum-known-min c = search needs
 
--- src/parts.rt:24:58
 cast-t17 : tie.Need-cast-t17
 cast-t17 c = search needs
 
--- src/parts.rt:24:13
 put-requires : tie.Need-put-requires
 put-requires c κs = many-putting ((c .before .before .before .before .before .before .before) .args .s .now)
     ((c .before .before .before .before .before .before .before) .args .at)
@@ -35,27 +29,22 @@ put-requires c κs = many-putting ((c .before .before .before .before .before .b
     (behind-room ((c .before .before .before .before .before .before .before) .pre .0))
     ((c .before .before .before .before .before .before .before) .pre .1)
 
--- src/parts.rt:25:39
 add-t19 : tie.Need-add-t19
 add-t19 c = search needs
 
--- src/parts.rt:16:1
 returns : tie.Need-returns
 returns c = once-quantifies ((c .before .before .before .before .before) .args .s .now)
     ((c .before .before .before .before .before) .args .at) ((c .before .before .quantifier-at) .ensures)
     ((c .enum-told) .given .1)
 
--- src/parts.rt:16:1
 returns-2 : tie.Need-returns-2
 returns-2 c = refused-quantifies ((c .before .before .before .before .before .before) .args .s .now)
     ((c .before .before .before .before .before .before) .args .at) ((c .before .before .before .quantifier-at) .ensures)
     ((c .before .number) .given .1)
 
--- src/parts.rt:16:1
 same-length : tie.Need-same-length
 same-length c = search needs
 
--- src/parts.rt:16:1
 returns-3 : tie.Need-returns-3
 returns-3 c = many-quantifies
     ((c .before .before .before .before .before .before .before .before .before .before) .args .s .now)

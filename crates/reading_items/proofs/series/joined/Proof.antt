@@ -6,40 +6,31 @@ use Rattle.reading_items.proofs.series.joined.Reads as reads
 use Rattle.reading_items.proofs.series.joined.Lts as lts
 use Rattle.table.proofs.put.Reads as put-reads
 
--- src/series.rt:30:9
 returns : tie.Need-returns
 returns c = join-one ((c .if1) .taken)
 
--- src/series.rt:33:9
 put-requires : tie.Need-put-requires
 put-requires c κs = empty-putting ((c .before .if2) .taken) ((c .before .before .before .before) .pre)
 
--- src/series.rt:34:16
 add-result : tie.Need-add-result
 add-result c = search needs
 
--- src/series.rt:34:9
 same-length : tie.Need-same-length
 same-length c = search needs
 
--- src/series.rt:34:9
 returns-2 : tie.Need-returns-2
 returns-2 c = join-none ((c .before .before .before .before .if2) .taken) ((c .before .before .put) .ensures)
 
--- src/series.rt:36:5
 put-requires-2 : tie.Need-put-requires-2
 put-requires-2 c κs = row-putting ((c .before .before .if1) .left) ((c .before .if2) .left)
     ((c .before .before .before .before) .pre)
 
--- src/series.rt:37:5
 add-result-2 : tie.Need-add-result-2
 add-result-2 c = search needs
 
--- src/series.rt:25:1
 same-length-2 : tie.Need-same-length-2
 same-length-2 c = search needs
 
--- src/series.rt:25:1
 returns-3 : tie.Need-returns-3
 returns-3 c = join-row ((c .before .before .before .before .before .if1) .left) ((c .before .before .before .before .if2) .left)
     ((c .before .before .put2) .ensures)

@@ -7,23 +7,18 @@ use Rattle.reading_items.proofs.series.splice.Reads as reads
 use Rattle.reading_items.proofs.series.splice.Lts as lts
 use Rattle.table.proofs.word.Reads as word-reads
 
--- src/series.rt:18:8
 word-requires : tie.Need-word-requires
 word-requires c κs = part-within ((c .before) .pre)
 
--- src/series.rt:19:31
 sub-t6 : tie.Need-sub-t6
 sub-t6 c = omega (arith, part-within ((c .before .before .before) .pre) .0)
 
--- src/series.rt:19:47
 word-requires-2 : tie.Need-word-requires-2
 word-requires-2 c κs = part-within-items ((c .before .before .before) .pre)
 
--- src/series.rt:19:9
 returns : tie.Need-returns
 returns c = splice-open (sym ((c .before .before .word) .ensures) ∙ (c .before .if1) .taken) ((c .word2) .ensures)
 
--- src/series.rt:14:1
 returns-2 : tie.Need-returns-2
 returns-2 c = splice-whole (λ e. (c .if1) .left ((c .before .word) .ensures ∙ e))
 

@@ -13,35 +13,27 @@ Inv-loop table₀ from i₀ table i = Cleared table₀ table from i
 abbrev μ-loop : tie.MeasureT-loop
 μ-loop table₀ from i₀ table i = length table₀ - i
 
--- src/words.rt:39:5
 loop-holds : tie.Need-loop-holds Inv-loop μ-loop
 loop-holds c = clear-start ((c) .args .table .now) ((c) .args .from) ((c) .pre)
 
--- src/words.rt:40:9
 mul-table : tie.Need-mul-table Inv-loop μ-loop
 mul-table c = search needs
 
--- src/words.rt:40:9
 slice-write-table : tie.Need-slice-write-table Inv-loop μ-loop
 slice-write-table c = search needs
 
--- src/words.rt:41:9
 add-i : tie.Need-add-i Inv-loop μ-loop
 add-i c = search needs
 
--- src/words.rt:39:5
 loop-less : tie.Need-loop-less Inv-loop μ-loop
 loop-less c = search needs
 
--- src/words.rt:39:5
 loop-again : tie.Need-loop-again Inv-loop μ-loop
 loop-again c = clear-more ((c .before .loop) .inv) ((c .loop-test) .taken)
 
--- src/words.rt:34:1
 same-length : tie.Need-same-length Inv-loop μ-loop
 same-length c = (c .before .loop) .inv .kept
 
--- src/words.rt:34:1
 returns : tie.Need-returns Inv-loop μ-loop
 returns c = clear-done ((c .before .loop) .inv) ((c .loop-test) .left)
 

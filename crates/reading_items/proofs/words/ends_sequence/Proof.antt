@@ -6,27 +6,21 @@ use Rattle.reading_items.proofs.words.ends_sequence.Reads as reads
 use Rattle.reading_items.proofs.words.ends_sequence.Lts as lts
 use Rattle.reading_atoms.proofs.byte_at.Reads as byte-at-reads
 
--- src/words.rt:15:9
 byte-at-requires : tie.Need-byte-at-requires
 byte-at-requires c κs = search needs
 
--- src/words.rt:17:9
 returns : tie.Need-returns
 returns c = rw (← (c .before .byte-at) .ensures, eq-eqb _ _ ((c .if1) .taken))
 
--- src/words.rt:19:13
 cast-if2 : tie.Need-cast-if2
 cast-if2 c = search needs
 
--- src/words.rt:20:9
 returns-2 : tie.Need-returns-2
 returns-2 c = rw (← (c .before .before .byte-at) .ensures, ne-eqb _ _ ((c .before .if1) .left), eq-eqb _ _ ((c .if2) .taken))
 
--- src/words.rt:22:10
 cast-result : tie.Need-cast-result
 cast-result c = search needs
 
--- src/words.rt:12:1
 returns-3 : tie.Need-returns-3
 returns-3 c = rw (← (c .before .before .byte-at) .ensures, ne-eqb _ _ ((c .before .if1) .left), ne-eqb _ _ ((c .if2) .left))
 

@@ -15,28 +15,22 @@ Inv-loop s at₀ at = (at ≤ length s) × (firstHigh s ≡ highGo (drop at s) a
 abbrev μ-loop : tie.MeasureT-loop
 μ-loop s at₀ at = length s - at
 
--- src/words.rt:24:5
 loop-holds : tie.Need-loop-holds Inv-loop μ-loop
 loop-holds c = (search needs, refl)
 
--- src/words.rt:25:19
 shared-slice-read-if1 : tie.Need-shared-slice-read-if1 Inv-loop μ-loop
 shared-slice-read-if1 c = search needs
 
--- src/words.rt:26:13
 returns : tie.Need-returns Inv-loop μ-loop
 returns c = sym ((c .before .before .before .loop) .inv .1
     ∙ high-here _ _ ((c .before .before .loop-test) .taken) ((c .if1) .taken))
 
--- src/words.rt:28:9
 add-at : tie.Need-add-at Inv-loop μ-loop
 add-at c = search needs
 
--- src/words.rt:24:5
 loop-less : tie.Need-loop-less Inv-loop μ-loop
 loop-less c = search needs
 
--- src/words.rt:24:5
 loop-again : tie.Need-loop-again Inv-loop μ-loop
 loop-again c = (
   search needs,
@@ -44,7 +38,6 @@ loop-again c = (
       ∙ high-on _ _ ((c .before .before .loop-test) .taken) ((c .if1) .left),
 )
 
--- src/words.rt:20:1
 returns-2 : tie.Need-returns-2 Inv-loop μ-loop
 returns-2 c = sym ((c .before .loop) .inv .1 ∙ high-none _ _ ((c .before .loop) .inv .0) ((c .loop-test) .left))
 

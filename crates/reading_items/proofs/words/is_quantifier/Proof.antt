@@ -4,7 +4,6 @@ use Rattle.reading_items.proofs.words.is_quantifier.Tie as tie
 use Rattle.reading_items.proofs.words.is_quantifier.Reads as reads
 use Rattle.reading_items.proofs.words.is_quantifier.Lts as lts
 
--- src/words.rt:26:1
 returns : tie.Need-returns
 returns c = rw (c .match .keys1)
 

@@ -6,7 +6,7 @@ use lib.Dec.{eqb, leb}
 use Rattle.tidying_fitting.specs.Fitting.{fits}
 use Rattle.tidying_fitting.proofs.Told.{asked, quantified-passed, part-asked, on-quantifier, first-fails, first-passes}
 use Rattle.tidying_fitting.specs.Words.{isNested, nestedIn, ownOf, lazyWords, t5-words}
-use Rattle.table.specs.Table.{noMaximum}
+use Rattle.meaning.specs.Limits.{noMaximum}
 use borrow.Author.Needs.{needs}
 use Rattle.tidying_fitting.proofs.quantifiers.loop_of_loop.Statement.{statement}
 use Rattle.tidying_fitting.proofs.quantifiers.loop_of_loop.Tie as tie
@@ -15,29 +15,23 @@ use Rattle.tidying_fitting.proofs.quantifiers.loop_of_loop.Lts as lts
 use Rattle.tidying_fitting.proofs.quantifiers.nested.Reads as nested-reads
 use Rattle.tidying_fitting.proofs.own.Reads as own-reads
 
--- src/lib.rt:163:9
 nested-requires : tie.Need-nested-requires
 nested-requires c κs = search needs
 
--- src/lib.rt:164:9
 returns : tie.Need-returns
 returns c = first-fails (fits 5) (isNested noMaximum) (lazyWords leb) t5-words ((c .before .nested) .ensures)
     (not-true _ (c .if1 .taken))
 
--- src/lib.rt:166:9
 own-requires : tie.Need-own-requires
 own-requires c κs = search needs
 
--- src/lib.rt:167:28
 sub-own : tie.Need-sub-own
 sub-own c = omega (arith, asked ((c .before .before .before .before) .pre))
 
--- src/lib.rt:167:9
 own-requires-2 : tie.Need-own-requires-2
 own-requires-2 c κs = part-asked (quantified-passed (λ r q. nestedIn noMaximum (ownOf r) (ownOf q))
     ((c .before .before .nested) .ensures) (not-false _ (c .before .if1 .left))) ((c .before .before .before .before) .pre)
 
--- src/lib.rt:159:1
 returns-2 : tie.Need-returns-2
 returns-2 c = first-passes (fits 5) (isNested noMaximum) (lazyWords leb) t5-words
     ((c .before .before .before .before .before .nested) .ensures) (not-false _ (c .before .before .before .before .if1 .left))

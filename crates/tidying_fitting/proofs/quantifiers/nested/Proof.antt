@@ -12,34 +12,27 @@ use Rattle.tidying_fitting.proofs.quantifiers.nested.Lts as lts
 use Rattle.tidying_fitting.proofs.own.Reads as own-reads
 use Rattle.tidying_fitting.proofs.quantifiers.ranges.Reads as ranges-reads
 
--- src/lib.rt:147:9
 own-requires : tie.Need-own-requires
 own-requires c κs = search needs
 
--- src/lib.rt:148:9
 ranges-requires : tie.Need-ranges-requires
 ranges-requires c κs = search needs
 
--- src/lib.rt:149:9
 returns : tie.Need-returns
 returns c = off-ranged ((c .before .before .before .before) .args .most) ((c .before .before .own) .ensures)
     (sym ((c .before .ranges) .ensures) ∙ not-true _ (c .if1 .taken))
 
--- src/lib.rt:151:28
 sub-own : tie.Need-sub-own
 sub-own c = omega (arith, asked ((c .before .before .before .before) .pre))
 
--- src/lib.rt:151:9
 own-requires-2 : tie.Need-own-requires-2
 own-requires-2 c κs = part-asked (quantified-ranged ((c .before .before .before .before) .args .most)
     ((c .before .before .own) .ensures) (sym ((c .before .ranges) .ensures) ∙ not-false _ (c .if1 .left)))
     ((c .before .before .before .before) .pre)
 
--- src/lib.rt:152:9
 ranges-requires-2 : tie.Need-ranges-requires-2
 ranges-requires-2 c κs = search needs
 
--- src/lib.rt:153:9
 returns-2 : tie.Need-returns-2
 returns-2 c = let outer = sym ((c .before .before .before .before .ranges) .ensures) ∙ not-false _
     (c .before .before .before .if1 .left) in
@@ -49,7 +42,6 @@ returns-2 c = let outer = sym ((c .before .before .before .before .ranges) .ensu
     ((c .before .before .before .before .before .own) .ensures) ((c .before .before .own2) .ensures)
     (rw (outer, sym ((c .before .ranges2) .ensures) ∙ not-true _ (c .if2 .taken)))
 
--- src/lib.rt:143:1
 returns-3 : tie.Need-returns-3
 returns-3 c = let outer = sym ((c .before .before .before .before .before .ranges) .ensures) ∙ not-false _
     (c .before .before .before .before .if1 .left) in

@@ -11,20 +11,16 @@ use Rattle.tidying_fitting.proofs.quantifiers.once_or_never.Reads as re
 use Rattle.tidying_fitting.proofs.quantifiers.once_or_never.Lts as lts
 use Rattle.tidying_fitting.proofs.own.Reads as own-reads
 
--- src/lib.rt:87:9
 own-requires : tie.Need-own-requires
 own-requires c κs = search needs
 
--- src/lib.rt:89:9
 returns : tie.Need-returns
 returns c = by-record onceOrNever (fits 2) t2-words ((c .before .before .own) .ensures) (rw (ne-eqb _ _ ((c .if1) .taken)))
 
--- src/lib.rt:92:9
 returns-2 : tie.Need-returns-2
 returns-2 c = by-record onceOrNever (fits 2) t2-words ((c .before .before .before .before .own) .ensures)
     (rw (eq-eqb _ _ ((c .before .before .if1) .left), ne-eqb _ _ ((c .if2) .taken)))
 
--- src/lib.rt:95:9
 returns-3 : tie.Need-returns-3
 returns-3 c = by-record onceOrNever (fits 2) t2-words ((c .before .before .before .before .before .before .own) .ensures)
     (rw (
@@ -34,7 +30,6 @@ returns-3 c = by-record onceOrNever (fits 2) t2-words ((c .before .before .befor
           ((c .if3) .taken),
     ))
 
--- src/lib.rt:83:1
 returns-4 : tie.Need-returns-4
 returns-4 c = by-record onceOrNever (fits 2) t2-words ((c .before .before .before .before .before .before .before .own)
     .ensures) (rw (

@@ -6,7 +6,7 @@ use lib.Dec.{eqb, leb}
 use Rattle.tidying_fitting.specs.Fitting.{fits}
 use Rattle.tidying_fitting.proofs.Told.{asked, quantified-passed, part-asked, on-quantifier, first-fails, first-passes}
 use Rattle.tidying_fitting.specs.Words.{isNested, nestedIn, ownOf, lazyWords, t9-words}
-use Rattle.table.specs.Table.{noMaximum}
+use Rattle.meaning.specs.Limits.{noMaximum}
 use borrow.Author.Needs.{needs}
 use Rattle.tidying_fitting.proofs.quantifiers.option_of_option.Statement.{statement}
 use Rattle.tidying_fitting.proofs.quantifiers.option_of_option.Tie as tie
@@ -15,29 +15,23 @@ use Rattle.tidying_fitting.proofs.quantifiers.option_of_option.Lts as l
 use Rattle.tidying_fitting.proofs.quantifiers.nested.Reads as nested-reads
 use Rattle.tidying_fitting.proofs.own.Reads as own-reads
 
--- src/lib.rt:176:9
 nested-requires : tie.Need-nested-requires
 nested-requires c κs = search needs
 
--- src/lib.rt:177:9
 returns : tie.Need-returns
 returns c = first-fails (fits 9) (isNested 1) (lazyWords eqb) t9-words ((c .before .nested) .ensures)
     (not-true _ (c .if1 .taken))
 
--- src/lib.rt:179:9
 own-requires : tie.Need-own-requires
 own-requires c κs = search needs
 
--- src/lib.rt:180:28
 sub-own : tie.Need-sub-own
 sub-own c = omega (arith, asked ((c .before .before .before .before) .pre))
 
--- src/lib.rt:180:9
 own-requires-2 : tie.Need-own-requires-2
 own-requires-2 c κs = part-asked (quantified-passed (λ r q. nestedIn 1 (ownOf r) (ownOf q))
     ((c .before .before .nested) .ensures) (not-false _ (c .before .if1 .left))) ((c .before .before .before .before) .pre)
 
--- src/lib.rt:172:1
 returns-2 : tie.Need-returns-2
 returns-2 c = first-passes (fits 9) (isNested 1) (lazyWords eqb) t9-words
     ((c .before .before .before .before .before .nested) .ensures) (not-false _ (c .before .before .before .before .if1 .left))

@@ -10,24 +10,19 @@ use Rattle.tidying_fitting.proofs.quantifiers.over.Reads as reads
 use Rattle.tidying_fitting.proofs.quantifiers.over.Lts as lts
 use Rattle.tidying_fitting.proofs.own.Reads as own-reads
 
--- src/lib.rt:105:9
 own-requires : tie.Need-own-requires
 own-requires c κs = search needs
 
--- src/lib.rt:107:9
 returns : tie.Need-returns
 returns c = off-kind _ ((c .before .before .own) .ensures) ((c .if1) .taken)
 
--- src/lib.rt:109:28
 sub-own : tie.Need-sub-own
 sub-own c = omega (arith, asked ((c .before .before .before .before) .pre))
 
--- src/lib.rt:109:9
 own-requires-2 : tie.Need-own-requires-2
 own-requires-2 c κs = part-asked (quantified-kind ((c .before .before .own) .ensures) ((c .if1) .left))
     ((c .before .before .before .before) .pre)
 
--- src/lib.rt:101:1
 returns-2 : tie.Need-returns-2
 returns-2 c = on-quantifier (λ o i. eqb (i .kind) ((c .before .before .before .before .before .before) .args .kind))
     (quantified-kind ((c .before .before .before .before .own) .ensures) ((c .before .before .if1) .left))

@@ -9,11 +9,9 @@ use Rattle.tidying_fitting.proofs.quantifiers.quantified_assertion.Read
 use Rattle.tidying_fitting.proofs.quantifiers.quantified_assertion.Lts as lts
 use Rattle.tidying_fitting.proofs.quantifiers.over.Reads as over-reads
 
--- src/lib.rt:126:5
 over-requires : tie.Need-over-requires
 over-requires c κs = search needs
 
--- src/lib.rt:122:1
 returns : tie.Need-returns
 returns c = by-test (isOver 3) (fits 4) (λ r. sym (t4-over r)) ((c .over) .ensures)
 

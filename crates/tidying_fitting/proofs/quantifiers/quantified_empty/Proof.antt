@@ -9,11 +9,9 @@ use Rattle.tidying_fitting.proofs.quantifiers.quantified_empty.Reads as
 use Rattle.tidying_fitting.proofs.quantifiers.quantified_empty.Lts as lts
 use Rattle.tidying_fitting.proofs.quantifiers.over.Reads as over-reads
 
--- src/lib.rt:118:5
 over-requires : tie.Need-over-requires
 over-requires c κs = search needs
 
--- src/lib.rt:114:1
 returns : tie.Need-returns
 returns c = by-test (isOver 1) (fits 3) (λ r. sym (t3-over r)) ((c .over) .ensures)
 

@@ -7,15 +7,12 @@ use Rattle.tidying_fitting.proofs.quantifiers.ranges.Tie as tie
 use Rattle.tidying_fitting.proofs.quantifiers.ranges.Reads as reads
 use Rattle.tidying_fitting.proofs.quantifiers.ranges.Lts as lts
 
--- src/lib.rt:134:9
 returns : tie.Need-returns
 returns c = rw (ne-eqb _ _ ((c .if1) .taken))
 
--- src/lib.rt:137:9
 returns-2 : tie.Need-returns-2
 returns-2 c = rw (eq-eqb _ _ ((c .before .before .if1) .left), ne-eqb _ _ ((c .if2) .taken))
 
--- src/lib.rt:130:1
 returns-3 : tie.Need-returns-3
 returns-3 c = rw (eq-eqb _ _ ((c .before .before .before .if1) .left), eq-eqb _ _ ((c .before .if2) .left))
 

@@ -9,52 +9,42 @@ use Rattle.tidying_fitting.proofs.own.Reads as own-reads
 use Rattle.tidying_fitting.proofs.series.first_item.Reads as first-item-reads
 use Rattle.sets.proofs.same.Reads as same-reads
 
--- src/series.rt:57:9
 first-item-requires : tie.Need-first-item-requires
 first-item-requires c κs = search needs
 
--- src/series.rt:58:9
 first-item-requires-2 : tie.Need-first-item-requires-2
 first-item-requires-2 c κs = search needs
 
--- src/series.rt:59:9
 own-requires : tie.Need-own-requires
 own-requires c κs = first-asked ((c .before .first-item) .ensures) ((c .first-item2) .ensures)
     ((c .before .before .before) .pre .0)
 
--- src/series.rt:61:9
 returns : tie.Need-returns
 returns c = first-differs ((c .before .before .before .before .first-item) .ensures)
     ((c .before .before .before .first-item2) .ensures) ((c .before .before .own) .ensures) ((c .if1) .taken)
 
--- src/series.rt:63:9
 own-requires-2 : tie.Need-own-requires-2
 own-requires-2 c κs = first-asked ((c .before .before .before .first-item2) .ensures)
     ((c .before .before .before .before .first-item) .ensures) ((c .before .before .before .before .before .before) .pre .1)
 
--- src/series.rt:65:9
 returns-2 : tie.Need-returns-2
 returns-2 c = second-differs ((c .before .before .before .before .before .before .before .first-item) .ensures)
     ((c .before .before .before .before .before .before .first-item2) .ensures) ((c .before .before .own2) .ensures)
     ((c .if2) .taken)
 
--- src/series.rt:67:16
 last-words-requires : tie.Need-last-words-requires
 last-words-requires c κs = first-asked ((c .before .before .before .before .before .before .before .first-item) .ensures)
     ((c .before .before .before .before .before .before .first-item2) .ensures)
     ((c .before .before .before .before .before .before .before .before .before) .pre .0)
 
--- src/series.rt:67:38
 last-words-requires-2 : tie.Need-last-words-requires-2
 last-words-requires-2 c κs = first-asked ((c .before .before .before .before .before .before .before .first-item2) .ensures)
     ((c .before .before .before .before .before .before .before .before .first-item) .ensures)
     ((c .before .before .before .before .before .before .before .before .before .before) .pre .1)
 
--- src/series.rt:67:5
 same-requires : tie.Need-same-requires
 same-requires c κs = search needs
 
--- src/series.rt:53:1
 returns-3 : tie.Need-returns-3
 returns-3 c = sets-told ((c .before .before .before .before .before .before .before .before .before .before .first-item)
     .ensures) ((c .before .before .before .before .before .before .before .before .before .first-item2) .ensures)

@@ -20,41 +20,32 @@ Inv-loop table top end₀ left₀ end left = (before : List ℕ) (r : Node) → 
 abbrev μ-loop : tie.MeasureT-loop
 μ-loop table top end₀ left₀ end left = left
 
--- src/series.rt:37:9
 own-requires : tie.Need-own-requires Inv-loop μ-loop
 own-requires c κs = search needs
 
--- src/series.rt:39:9
 returns : tie.Need-returns Inv-loop μ-loop
 returns c = first-alone ((c .before .before .own) .ensures) ((c .if1) .taken)
 
--- src/series.rt:41:19
 sub-end : tie.Need-sub-end Inv-loop μ-loop
 sub-end c = omega (arith, asked ((c .before .before .before .before) .pre))
 
--- src/series.rt:43:5
 loop-holds : tie.Need-loop-holds Inv-loop μ-loop
 loop-holds c = λ before r p. pass-first p ((c .before .before .own) .ensures) ((c .if1) .left)
 
--- src/series.rt:44:9
 start-requires : tie.Need-start-requires Inv-loop μ-loop
 start-requires c κs = let s = (c .before .before .before .before .before .before) .pre in turn-part
     (pass-turn ((c .before .loop) .inv (s .before) (s .part) (s .ends)) ((c .loop-test) .taken))
 
--- src/series.rt:45:9
 sub-left : tie.Need-sub-left Inv-loop μ-loop
 sub-left c = search needs
 
--- src/series.rt:43:5
 loop-less : tie.Need-loop-less Inv-loop μ-loop
 loop-less c = search needs
 
--- src/series.rt:43:5
 loop-again : tie.Need-loop-again Inv-loop μ-loop
 loop-again c = λ before r p. pass-more ((c .before .before .loop) .inv before r p) ((c .before .loop-test) .taken)
     ((c .start) .ensures)
 
--- src/series.rt:33:1
 returns-2 : tie.Need-returns-2 Inv-loop μ-loop
 returns-2 c = record { by = λ before r p. pass-last ((c .before .loop) .inv before r p) ((c .loop-test) .left) }
 

@@ -6,22 +6,18 @@ use Rattle.tidying_fitting.proofs.series.follows.Lts as lts
 use Rattle.tidying_fitting.proofs.series.begins_alike.Reads as begins-alike-reads
 use Rattle.tidying_fitting.proofs.start.Reads as start-reads
 
--- src/series.rt:76:9
 returns : tie.Need-returns
 returns c = alone-told ((c .if1) .taken)
 
--- src/series.rt:78:25
 start-requires : tie.Need-start-requires
 start-requires c κs = last-asked ((c .before .before) .pre)
 
--- src/series.rt:78:5
 begins-alike-requires : tie.Need-begins-alike-requires
 begins-alike-requires c κs = (
   before-asked ((c .before .if1) .left) ((c .start) .ensures) ((c .before .before .before) .pre),
   last-asked ((c .before .before .before) .pre),
 )
 
--- src/series.rt:71:1
 returns-2 : tie.Need-returns-2
 returns-2 c = follows-told ((c .before .before .if1) .left) ((c .before .start) .ensures) ((c .begins-alike) .ensures)
 

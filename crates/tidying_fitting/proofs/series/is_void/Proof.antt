@@ -9,27 +9,21 @@ use Rattle.tidying_fitting.proofs.own.Reads as own-reads
 use Rattle.sets.proofs.none.Reads as none-reads
 use Rattle.sets.proofs.same.Reads as same-reads
 
--- src/series.rt:25:9
 own-requires : tie.Need-own-requires
 own-requires c κs = search needs
 
--- src/series.rt:27:9
 returns : tie.Need-returns
 returns c = other-kind ((c .before .before .own) .ensures) ((c .if1) .taken)
 
--- src/series.rt:29:16
 last-words-requires : tie.Need-last-words-requires
 last-words-requires c κs = search needs
 
--- src/series.rt:29:40
 none-requires : tie.Need-none-requires
 none-requires c κs = search needs
 
--- src/series.rt:29:5
 same-requires : tie.Need-same-requires
 same-requires c κs = search needs
 
--- src/series.rt:21:1
 returns-2 : tie.Need-returns-2
 returns-2 c = void-told ((c .before .before .before .before .before .own) .ensures) ((c .before .before .before .if1) .left)
     ((c .before .before .last-words) .ensures) ((c .before .none) .ensures) ((c .same) .ensures)

@@ -21,19 +21,15 @@ Inv-loop table top items end₀ left₀ end left = (before : List ℕ) (front : 
 abbrev μ-loop : tie.MeasureT-loop
 μ-loop table top items end₀ left₀ end left = left
 
--- src/series.rt:115:9
 start-requires : tie.Need-start-requires Inv-loop μ-loop
 start-requires c κs = last-asked ((c .before) .pre)
 
--- src/series.rt:116:20
 sub-left : tie.Need-sub-left Inv-loop μ-loop
 sub-left c = omega (arith, row-some ((c .before .before) .pre))
 
--- src/series.rt:117:5
 loop-holds : tie.Need-loop-holds Inv-loop μ-loop
 loop-holds c = λ before front q row. repeat-first front q row ((c .start) .ensures)
 
--- src/series.rt:118:12
 same-part-requires : tie.Need-same-part-requires Inv-loop μ-loop
 same-part-requires c κs = let s = (c .before .before .before .before) .pre
     in (
@@ -42,7 +38,6 @@ same-part-requires c κs = let s = (c .before .before .before .before) .pre
           ((c .loop-test) .taken)),
     )
 
--- src/series.rt:119:13
 returns : tie.Need-returns Inv-loop μ-loop
 returns c = record {
   by = λ before front q row. repeat-found front q row
@@ -50,27 +45,22 @@ returns c = record {
       ((c .before .same-part) .ensures) ((c .if1) .taken);
 }
 
--- src/series.rt:121:9
 start-requires-2 : tie.Need-start-requires-2 Inv-loop μ-loop
 start-requires-2 c κs = let s = (c .before .before .before .before .before .before) .pre in last-asked
     (row-asked ((c .before .before .before .loop) .inv (s .before) (s .front) (s .last) (s .row))
     ((c .before .before .loop-test) .taken))
 
--- src/series.rt:122:9
 sub-left-2 : tie.Need-sub-left-2 Inv-loop μ-loop
 sub-left-2 c = search needs
 
--- src/series.rt:117:5
 loop-less : tie.Need-loop-less Inv-loop μ-loop
 loop-less c = search needs
 
--- src/series.rt:117:5
 loop-again : tie.Need-loop-again Inv-loop μ-loop
 loop-again c = λ before front q row. repeat-more front q row ((c .before .before .before .before .loop) .inv before front q
     row) ((c .before .before .before .loop-test) .taken) ((c .before .before .same-part) .ensures) ((c .before .if1) .left)
     ((c .start2) .ensures)
 
--- src/series.rt:111:1
 returns-2 : tie.Need-returns-2 Inv-loop μ-loop
 returns-2 c = record {
   by = λ before front q row. repeat-over front q row ((c .before .loop) .inv before front q row)

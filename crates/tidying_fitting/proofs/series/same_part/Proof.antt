@@ -9,27 +9,21 @@ use Rattle.tidying_fitting.proofs.series.same_part.Lts as lts
 use Rattle.tidying_fitting.proofs.series.same_words.Reads as same-words-reads
 use Rattle.tidying_fitting.proofs.start.Reads as start-reads
 
--- src/series.rt:101:9
 start-requires : tie.Need-start-requires
 start-requires c κs = search needs
 
--- src/series.rt:102:9
 start-requires-2 : tie.Need-start-requires-2
 start-requires-2 c κs = search needs
 
--- src/series.rt:103:19
 sub-records : tie.Need-sub-records
 sub-records c = starts ((c .before .before .before) .pre .0) ((c .before .start) .ensures) .few
 
--- src/series.rt:104:8
 sub-if1 : tie.Need-sub-if1
 sub-if1 c = starts ((c .before .before .before) .pre .1) ((c .start2) .ensures) .few
 
--- src/series.rt:105:9
 returns : tie.Need-returns
 returns c = counts-differ ((c .before .before .start) .ensures) ((c .before .start2) .ensures) ((c .if1) .taken)
 
--- src/series.rt:107:23
 mul-same-words : tie.Need-mul-same-words
 mul-same-words c = omega (
   arith,
@@ -38,7 +32,6 @@ mul-same-words c = omega (
   starts ((c .before .before .before .before) .pre .0) ((c .before .before .start) .ensures) .room,
 )
 
--- src/series.rt:107:34
 mul-same-words-2 : tie.Need-mul-same-words-2
 mul-same-words-2 c = omega (
   arith,
@@ -46,7 +39,6 @@ mul-same-words-2 c = omega (
   starts ((c .before .before .before .before) .pre .1) ((c .before .start2) .ensures) .room,
 )
 
--- src/series.rt:107:45
 mul-same-words-3 : tie.Need-mul-same-words-3
 mul-same-words-3 c = omega (
   arith,
@@ -55,7 +47,6 @@ mul-same-words-3 c = omega (
   starts ((c .before .before .before .before) .pre .0) ((c .before .before .start) .ensures) .room,
 )
 
--- src/series.rt:107:5
 same-words-requires : tie.Need-same-words-requires
 same-words-requires c κs = omega (
   arith,
@@ -70,7 +61,6 @@ same-words-requires c κs = omega (
   (c .if1) .left,
 )
 
--- src/series.rt:97:1
 returns-2 : tie.Need-returns-2
 returns-2 c = words-compare ((c .before .before .before .start) .ensures) ((c .before .before .start2) .ensures)
     ((c .before .if1) .left) ((c .same-words) .ensures)
