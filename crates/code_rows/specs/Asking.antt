@@ -8,15 +8,17 @@ use native.Mathlib.Omega.{arith}
 use lib.Dec.{eqb}
 use lib.ListN.{length}
 use Rattle.meaning.specs.Limits.{rowLimit, noMaximum}
-use Rattle.meaning.specs.Node.{Node, Node.empty, Node.bset, Node.assert, Node.group, Node.many}
+use Rattle.meaning.specs.Node.{Node, Node.empty, Node.bset, Node.assert, Node.group, Node.many, Within}
 use Rattle.meaning.specs.Flat.{Kind, Kind.sequence, Kind.alternation}
 use Rattle.machine.specs.Rows.{Row}
 use Rattle.machine.specs.Layout.{sizeOf, past, pastTurn, rowsOf}
-use Rattle.table.specs.Table.{recordWords, maximum, bitOf, sizeCap}
-use Rattle.code_rows.specs.Emits.{Part, Asks, Lays, Counted, freshSize, repeatsSize, turnSize, turnOf, turnsSize}
-use Rattle.code_words.specs.Wrote.{wordOf, Room, Wrote}
+use Rattle.table.specs.Table.{kindWord, sizeWord, leastWord, mostWord, lazyWord, quantifierKind}
+use Rattle.table.specs.Table.{recordWords, wordOf, maximum, bitOf, sizeCap}
+use Rattle.table.specs.Roots.{root-size}
+use Rattle.code_rows.specs.Emits.{Part, Asks, Lays, freshSize, repeatsSize, turnSize, turnOf, turnsSize}
+use Rattle.code_words.specs.Wrote.{Room, Wrote}
 use Rattle.code_words.specs.Wrote.{room-before}
-use Rattle.code_rows.specs.Cases.{part-some, records-low, the-size, IsGroup, IsMany, is-many}
+use Rattle.code_rows.specs.Cases.{part-some, records-low, IsGroup, IsMany, is-many}
 use Rattle.code_rows.specs.Lines.{inWords}
 use Rattle.code_rows.specs.Shapes.{past-turn}
 
@@ -76,28 +78,28 @@ bit-back true = refl
 bit-back false = refl
 
 module _ {table : List ℕ} {top n m b : ℕ}
-    (en : n ≡ wordOf table top 8) (em : m ≡ wordOf table top 9) (eb : b ≡ wordOf table top 10) where
+    (en : n ≡ wordOf table top leastWord) (em : m ≡ wordOf table top mostWord) (eb : b ≡ wordOf table top lazyWord) where
   named : {r : Node} {extra : Option ℕ} (i : IsMany table top r) → i .extra ≡ extra → Quantifier table top n extra (eqb b 1) r
   named {extra = extra} i e =
       let lazy : i .lazy ≡ eqb b 1 = bit-back (i .lazy) ∙ ap (λ w. eqb w 1) (sym (eb ∙ i .bit)) in
-      let is : many (wordOf table top 8) (i .extra) (i .lazy) (i .inside) ≡ many n extra (eqb b 1) (i .inside)
+      let is : many (wordOf table top leastWord) (i .extra) (i .lazy) (i .inside) ≡ many n extra (eqb b 1) (i .inside)
       = let back = sym en in λ j. many (back j) (e j) (lazy j) (i .inside) in
       record { inside = i .inside; is = i .is ∙ is; part = i .part }
 
-  pub is-endless : (r : Node) → Part table top r → wordOf table top 0 ≡ 7 → m ≡ noMaximum
+  pub is-endless : (r : Node) → Part table top r → wordOf table top kindWord ≡ quantifierKind → m ≡ noMaximum
       → Quantifier table top n none (eqb b 1) r
-  is-endless r p k h = let i = is-many r p k in named i (go (i .lazy) (i .inside) (i .extra) (i .most) (i .counted))
+  is-endless r p k h = let i = is-many r p k in named i (go (i .extra) (i .most) (i .within))
     where
-      go : (lazy : Bool) (q : Node) (x : Option ℕ) → wordOf table top 9 ≡ maximum (wordOf table top 8) x
-          → Counted (many (wordOf table top 8) x lazy q) → x ≡ none
-      go lazy q none e c = refl
-      go lazy q (some x) e c = absurd (omega (arith, c .0))
+      go : (x : Option ℕ) → wordOf table top mostWord ≡ maximum (wordOf table top leastWord) x
+          → Within (wordOf table top leastWord) x → x ≡ none
+      go none e c = refl
+      go (some x) e c = absurd (omega arith)
 
-  pub is-bounded : (r : Node) → Part table top r → wordOf table top 0 ≡ 7 → (m ≡ noMaximum → ⊥)
+  pub is-bounded : (r : Node) → Part table top r → wordOf table top kindWord ≡ quantifierKind → (m ≡ noMaximum → ⊥)
       → (n ≤ m) × Quantifier table top n (some (m - n)) (eqb b 1) r
   is-bounded r p k h = let i = is-many r p k in let (l, e) = go (i .extra) (i .most) in (l, named i e)
     where
-      go : (x : Option ℕ) → wordOf table top 9 ≡ maximum (wordOf table top 8) x → (n ≤ m) × (x ≡ some (m - n))
+      go : (x : Option ℕ) → wordOf table top mostWord ≡ maximum (wordOf table top leastWord) x → (n ≤ m) × (x ≡ some (m - n))
       go none e = absurd (h (em ∙ e))
       go (some x) e = (omega arith, ap some (omega arith))
 
@@ -112,9 +114,9 @@ module _ {table : List ℕ} {top n : ℕ} {lazy : Bool} {r : Node} where
   bounded-size i = ap sizeOf (i .is)
 
 -- A size below the cap is the size's word.
-pub size-word : {table : List ℕ} {top w : ℕ} {r : Node} → Part table top r → w ≡ wordOf table top 4 → sizeOf r ≤ rowLimit
+pub size-word : {table : List ℕ} {top w : ℕ} {r : Node} → Part table top r → w ≡ wordOf table top sizeWord → sizeOf r ≤ rowLimit
     → w ≡ sizeOf r
-size-word p e h = e ∙ the-size p ∙ omega arith
+size-word p e h = e ∙ root-size (p .ends) ∙ omega arith
 
 -- A turn that goes on at its own end goes on at the next.
 pub turn-on : {table : List ℕ} {top : ℕ} {code code′ : List ℕ} {start end : ℕ} (lazy : Bool) (out : ℕ)

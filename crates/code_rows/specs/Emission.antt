@@ -14,8 +14,8 @@ use Rattle.machine.specs.Layout.{sizeOf, programOf}
 use Rattle.machine.specs.Words.{codeOf, codePasses}
 use Rattle.machine.specs.Coded.{compiled-code-passes}
 use Rattle.table.specs.Table.{sizeCap}
-use Rattle.code_words.specs.Wrote.{wordOf}
-use Rattle.code_rows.specs.Cases.{the-size}
+use Rattle.table.specs.Table.{wordOf, sizeWord}
+use Rattle.table.specs.Roots.{root-size}
 use Rattle.code_rows.specs.Program.{Tabled, tabled-part, Roomy, Compiling, Compiles}
 use Rattle.code_rows.specs.declared.Emission.{Emission}
 use Rattle.code_rows.specs.declared.Emission.the-variants.{Rows, TooMany, TooShort}
@@ -46,13 +46,13 @@ pub record Emits (table : List ℕ) (top groups : ℕ) (code code′ : List ℕ)
   pub answers : (r : Node) → Tabled table top r → answer ≡ emission r (length code)
   pub leaves : (r : Node) → Tabled table top r → code′ ≡ codeEmitted groups r code
 
-module _ {table : List ℕ} {top w : ℕ} (e : w ≡ wordOf table top 4) where
+module _ {table : List ℕ} {top w : ℕ} (e : w ≡ wordOf table top sizeWord) where
   -- The size's word says whether there are too many rows, and if not how many.
   many-rows : {r : Node} → Tabled table top r → rowLimit < leastRows + w → rowLimit < rowsNeeded r
-  many-rows t h = omega (arith, the-size (tabled-part t))
+  many-rows t h = omega (arith, root-size t)
 
   pub few-rows : {r : Node} → Tabled table top r → leastRows + w ≤ rowLimit → leastRows + w ≡ rowsNeeded r
-  few-rows t h = omega (arith, the-size (tabled-part t))
+  few-rows t h = omega (arith, root-size t)
 
   pub too-many : (g : ℕ) (code : List ℕ) → rowLimit < leastRows + w → Emits table top g code code TooMany
   too-many g code h = record {

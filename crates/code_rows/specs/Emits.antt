@@ -2,45 +2,20 @@
 -- no argument.
 use mathlib.Core.Path.{_≡_}
 use mathlib.Core.Bool.{Bool}
-use mathlib.Core.Option.{Option, none, some}
 use mathlib.Core.List.{List, [], _∷_, _++_}
-use Prim.Native.Nat.{ℕ, suc, _+_, _-_, _*_, _≤_, _<_}
-use lib.ListN.{length, take}
-use Rattle.meaning.specs.Limits.{countLimit}
-use Rattle.meaning.specs.Node.{Node, Node.empty, Node.bset, Node.assert, Node.group, Node.seq, Node.alt}
-use Rattle.meaning.specs.Node.{Node.many, Proper, lo, hi}
+use Prim.Native.Nat.{ℕ, suc, _+_, _*_, _≤_}
+use Rattle.meaning.specs.Node.{Node, lo, hi}
 use Rattle.meaning.specs.Results.{concatMap}
 use Rattle.machine.specs.Rows.{Row, Row.reset, Row.fork, Row.jump}
 use Rattle.machine.specs.Layout.{sizeOf, past, rowsOf, pastTurn, copies, turnRows}
 use Rattle.machine.specs.Words.{wordsOf}
-use Rattle.table.specs.Table.{recordWords, records}
+use Rattle.table.specs.Stands.{Ends}
 use Rattle.code_words.specs.Wrote.{Room, Wrote}
-
--- Every quantifier's counts are within the limit, so that none is taken for no maximum.
-abbrev pub Counted : Node → Type 0
-Counted empty = Unit {0}
-Counted (bset s) = Unit {0}
-Counted (assert a) = Unit {0}
-Counted (group k r) = Counted r
-Counted (seq r q) = Counted r × Counted q
-Counted (alt r q) = Counted r × Counted q
-Counted (many n none lazy r) = (n ≤ countLimit) × Counted r
-Counted (many n (some e) lazy r) = (n + e ≤ countLimit) × Counted r
-
--- What is asked of a pattern: its sets and assertions are proper, and its counts within the limit.
-abbrev pub Fine : Node → Type 0
-Fine r = Proper r × Counted r
-
--- The words below record number `top`.
-pub record Stands (table : List ℕ) (top : ℕ) (words : List ℕ) : Type 0 where
-  pub below : take (recordWords * top) table ≡ words
-  pub room : recordWords * top ≤ length table
 
 -- The records of a pattern are the last ones below record number `top`.
 pub record Part (table : List ℕ) (top : ℕ) (r : Node) : Type 0 where
   pub before : List ℕ
-  pub stands : Stands table top (before ++ records r)
-  pub fine : Fine r
+  pub ends : Ends table top before r
 
 -- What is asked: a pattern's records end at `top`, and the rows that it needs fit before row `end`.
 pub record Asks (need : Node → ℕ) (table : List ℕ) (top : ℕ) (code : List ℕ) (end : ℕ) : Type 0 where

@@ -1,4 +1,3 @@
-pub mod Records
 pub mod Emits
 pub mod Cases
 pub mod Lines

@@ -14,7 +14,8 @@ use Rattle.machine.specs.Layout.{copies}
 use Rattle.machine.specs.Words.{wordsOf}
 use Rattle.table.specs.Table.{recordWords}
 use Rattle.code_rows.specs.Emits.{Part, Asks, Lays}
-use Rattle.code_words.specs.Wrote.{wordOf, Room, Wrote}
+use Rattle.table.specs.Table.{wordOf, recordsWord}
+use Rattle.code_words.specs.Wrote.{Room, Wrote}
 use Rattle.code_words.specs.Wrote.{room-before, wrote-as, wrote-none, then}
 use Rattle.code_rows.specs.Cases.{Rest, Last, the-last, part-some, records-low}
 
@@ -148,11 +149,11 @@ module _ {need : Node → ℕ} {one : Node → ℕ → List Row} {table code₀ 
     }
 
     -- The next part's own record may be read, and the part passed.
-    pub lined-low : (0 < item) × (recordWords * item ≤ length table) × (wordOf table item 2 ≤ item)
+    pub lined-low : (0 < item) × (recordWords * item ≤ length table) × (wordOf table item recordsWord ≤ item)
     lined-low = (part-some (next .part) .0, part-some (next .part) .1, records-low (next .part))
 
     pub lined-more : {code′ : List ℕ} {at′ : ℕ} → Room code₀ end → Lays need one table item code code′ at′ at
-        → Lined need one table code₀ code′ (item - wordOf table item 2) (left - 1) at′ end l
+        → Lined need one table code₀ code′ (item - wordOf table item recordsWord) (left - 1) at′ end l
     lined-more {code′} {at′} room lays =
         let r : Node = next .node in
         let w : Wrote code code′ at′ at (need r) (inWords (one r at′)) = lays .by r (next .part) (omega (arith, fits-next)) in
@@ -172,4 +173,4 @@ module _ {need : Node → ℕ} {one : Node → ℕ → List Row} {table code₀ 
       go : (f : List Node) → l ≡ f ++ s .done → Rest table item left f
           → Wrote code₀ code at end (total need l) (inWords (lineRows need one l at))
       go [] e t = wrote-as (s .wrote) (ap (total need) (sym e)) (ap (λ m. inWords (lineRows need one m at)) (sym e))
-      go (r ∷ f) e t = absurd (omega (arith, t .counted))
+      go (r ∷ f) e t = absurd (omega (arith, t .series .counted))

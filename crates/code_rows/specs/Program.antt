@@ -16,19 +16,18 @@ use Rattle.machine.specs.Rows.{Row.reset, Row.begin, Row.end as ends, rowCount}
 use Rattle.machine.specs.Layout.{sizeOf, rowsOf, anyByte, programOf}
 use Rattle.machine.specs.Laid.{program-stands}
 use Rattle.machine.specs.Words.{rowStart, plainWords, codeOf}
-use Rattle.table.specs.Table.{recordWords, records}
-use Rattle.code_rows.specs.Emits.{Fine, Stands, Part}
+use Rattle.table.specs.Stands.{Ends}
+use Rattle.code_rows.specs.Emits.{Part}
 use Rattle.code_words.specs.Wrote.{Room, Wrote}
 use Rattle.code_words.specs.Wrote.{wrote-as}
 use Rattle.code_rows.specs.Lines.{inWords, rows-then}
 
 -- The first records of a table, up to record number `top`, are a pattern's.
-pub record Tabled (table : List ℕ) (top : ℕ) (r : Node) : Type 0 where
-  pub stands : Stands table top (records r)
-  pub fine : Fine r
+abbrev pub Tabled : List ℕ → ℕ → Node → Type 0
+Tabled table top r = Ends table top [] r
 
 pub tabled-part : {table : List ℕ} {top : ℕ} {r : Node} → Tabled table top r → Part table top r
-tabled-part t = record { before = []; stands = t .stands; fine = t .fine }
+tabled-part t = record { before = []; ends = t }
 
 -- Code has room for a pattern's program, which has no more rows than there may be.
 pub record Roomy (code : List ℕ) (r : Node) : Type 0 where

@@ -14,13 +14,15 @@ use Rattle.machine.specs.Rows.{Row.reset, Row.begin, Row.end as ends, Row.asser
 use Rattle.machine.specs.Layout.{sizeOf, forkOf, times, past, pastTurn, copies, turnRows, turnsRows, rowsOf}
 use Rattle.machine.specs.Laid.{past-sizeOf}
 use Rattle.machine.specs.Words.{plainWords}
-use Rattle.code_rows.specs.Records.{inner}
 use Rattle.code_rows.specs.Emits.{Part, Lays, clear, freshSize, freshRows, repeatsSize, repeatsRows}
 use Rattle.code_rows.specs.Emits.{turnSize, turnOf, turnsSize, turnsOf}
-use Rattle.code_words.specs.Wrote.{wordOf, Room, Wrote}
+use Rattle.table.specs.Table.{wordOf, itemsWord}
+use Rattle.table.specs.Laws.{inner}
+use Rattle.table.specs.Roots.{root-items}
+use Rattle.code_words.specs.Wrote.{Room, Wrote}
 use Rattle.code_rows.specs.Emits.{alternativeSize, alternativeRows}
 use Rattle.code_words.specs.Wrote.{wrote-as, wrote-none}
-use Rattle.code_rows.specs.Cases.{Last, the-last, rest-of, the-items, IsPair}
+use Rattle.code_rows.specs.Cases.{Last, the-last, rest-of, IsPair}
 use Rattle.code_rows.specs.Lines.{inWords, rows-then, total, lineRows}
 
 -- Where a pass and a turn end.
@@ -221,10 +223,10 @@ module _ (out : ℕ) (x : Node) where
   last-rows (r ∷ s ∷ l) q = one-apart r (s ∷ l) (last-rows (s ∷ l)) q
 
 module _ {table : List ℕ} {top : ℕ} {r : Node} (p : Part table top r) (i : IsPair alternation r) where
-  pub some-alternative : 0 < wordOf table top 3
-  some-alternative = omega (arith, the-items p, alternatives-all i .some)
+  pub some-alternative : 0 < wordOf table top itemsWord
+  some-alternative = omega (arith, root-items (p .ends), alternatives-all i .some)
 
-  abbrev pub last-alternative : Last table (top - 1) (wordOf table top 3) (inner r)
+  abbrev pub last-alternative : Last table (top - 1) (wordOf table top itemsWord) (inner r)
   last-alternative = the-last (rest-of p) some-alternative
 
   pub alternation-size : total alternativeSize (last-alternative .front) + sizeOf (last-alternative .node) ≡ sizeOf r

@@ -4,18 +4,16 @@ ghost use mathlib.Core.Path.{_≡_};
 ghost use Rattle.machine.specs.Layout.{sizeOf, rowsOf};
 ghost use Rattle.code_rows.specs.Emits.{Asks, Lays, freshSize, freshRows, repeatsSize, repeatsRows};
 ghost use Rattle.code_rows.specs.Emits.{turnSize, turnOf, turnsSize, turnsOf, alternativeSize, alternativeRows};
-ghost use Rattle.code_words.specs.Wrote.{wordOf, Room, Wrote};
+ghost use Rattle.table.specs.Table.{kindWord, groupKind, sequenceKind, alternationKind, quantifierKind, wordOf};
+ghost use Rattle.code_words.specs.Wrote.{Room, Wrote};
 ghost use Rattle.code_rows.specs.Lines.{inWords};
 ghost use Rattle.code_rows.specs.Program.{prefixRows, Compiling, Compiles};
 ghost use Rattle.code_rows.specs.Emission.{SomeTabled, Emits};
 use code_words::consuming;
 use code_words::place;
 use code_words::plain;
-use code_words::previous;
 use code_words::put_before;
 use code_words::row_before;
-use code_words::set_of;
-use code_words::word;
 use machine::ACCEPT;
 use machine::ASSERT;
 use machine::BEGIN;
@@ -45,6 +43,9 @@ use table::OPERAND;
 use table::QUANTIFIER;
 use table::SEQUENCE;
 use table::SIZE;
+use table::last_words;
+use table::previous;
+use table::word;
 
 // The rows of a turn besides its part's: Fork, Begin, Reset, End.
 const TURN_ROWS: usize = 4;
@@ -55,7 +56,7 @@ fn part(table: &[u32], top: usize, code: &mut [u32], end: usize) -> usize
     ensures { λ r. ⌜ Lays sizeOf rowsOf (now (table .entry)) top (now (code .entry)) (now (code .exit)) r end ⌝ }
 {
     match word(table, top, KIND) {
-        BYTE_SET => put_before(code, end, consuming(set_of(table, top))),
+        BYTE_SET => put_before(code, end, consuming(last_words(table, top))),
         ASSERTION => row_before(code, end, ASSERT, word(table, top, OPERAND), 0),
         GROUP => group(table, top, code, end),
         SEQUENCE => sequence(table, top, code, end),
@@ -67,7 +68,7 @@ fn part(table: &[u32], top: usize, code: &mut [u32], end: usize) -> usize
 
 // A group: Open, the part inside it, Close.
 fn group(table: &[u32], top: usize, code: &mut [u32], end: usize) -> usize
-    requires { ⌜ Asks sizeOf (now table) top (now code) end × (wordOf (now table) top 0 ≡ 4) ⌝ }
+    requires { ⌜ Asks sizeOf (now table) top (now code) end × (wordOf (now table) top kindWord ≡ groupKind) ⌝ }
     ensures { λ r. ⌜ Lays sizeOf rowsOf (now (table .entry)) top (now (code .entry)) (now (code .exit)) r end ⌝ }
 {
     let k = word(table, top, OPERAND);
@@ -78,7 +79,7 @@ fn group(table: &[u32], top: usize, code: &mut [u32], end: usize) -> usize
 
 // A sequence: its items, from the last one back.
 fn sequence(table: &[u32], top: usize, code: &mut [u32], end: usize) -> usize
-    requires { ⌜ Asks sizeOf (now table) top (now code) end × (wordOf (now table) top 0 ≡ 5) ⌝ }
+    requires { ⌜ Asks sizeOf (now table) top (now code) end × (wordOf (now table) top kindWord ≡ sequenceKind) ⌝ }
     ensures { λ r. ⌜ Lays sizeOf rowsOf (now (table .entry)) top (now (code .entry)) (now (code .exit)) r end ⌝ }
 {
     let mut left = word(table, top, ITEMS);
@@ -94,7 +95,7 @@ fn sequence(table: &[u32], top: usize, code: &mut [u32], end: usize) -> usize
 
 // An alternation: its last alternative, and then the others, from the last of them back.
 fn alternation(table: &[u32], top: usize, code: &mut [u32], end: usize) -> usize
-    requires { ⌜ Asks sizeOf (now table) top (now code) end × (wordOf (now table) top 0 ≡ 6) ⌝ }
+    requires { ⌜ Asks sizeOf (now table) top (now code) end × (wordOf (now table) top kindWord ≡ alternationKind) ⌝ }
     ensures { λ r. ⌜ Lays sizeOf rowsOf (now (table .entry)) top (now (code .entry)) (now (code .exit)) r end ⌝ }
 {
     let mut left = word(table, top, ITEMS) - 1;
@@ -122,7 +123,7 @@ fn alternative(table: &[u32], top: usize, out: u32, code: &mut [u32], end: usize
 
 // A quantifier: the part as often as it must be, and then the turns that can be left out.
 fn quantifier(table: &[u32], top: usize, code: &mut [u32], end: usize) -> usize
-    requires { ⌜ Asks sizeOf (now table) top (now code) end × (wordOf (now table) top 0 ≡ 7) ⌝ }
+    requires { ⌜ Asks sizeOf (now table) top (now code) end × (wordOf (now table) top kindWord ≡ quantifierKind) ⌝ }
     ensures { λ r. ⌜ Lays sizeOf rowsOf (now (table .entry)) top (now (code .entry)) (now (code .exit)) r end ⌝ }
 {
     let least = word(table, top, LEAST);

@@ -13,10 +13,6 @@ use Rattle.meaning.specs.Limits.{rowLimit, rowWords, codeWords}
 use Rattle.machine.specs.Words.{rowStart}
 use Rattle.table.specs.Table.{recordWords}
 
--- Word `which` of the record before record number `top`.
-abbrev pub wordOf : List ℕ → ℕ → ℕ → ℕ
-wordOf table top which = getD table (recordWords * (top - 1) + which) 0
-
 -- Code has the words of the rows before row `end`, which are no more than there may be.
 pub record Room (code : List ℕ) (end : ℕ) : Type 0 where
   pub few : end ≤ rowLimit
@@ -54,17 +50,6 @@ module _ {to from now : List ℕ} {at n : ℕ} where
       let all : n ≡ length from = omega (arith, c .some) in
       c .pasted ∙ ap (paste to at from) all ∙ ap₂ (λ l k. take at to ++ l ++ drop (at + k) to) (take-length from) e
       ∙ append-assoc (take at to) from (drop (at + k) to)
-
--- Eight words of a list, from one of its places on.
-pub eight-words : (list : List ℕ) (at : ℕ) {set : List ℕ} {n : ℕ} → Words (λ j. getD list (at + (8 + j)) 0) set n → 8 ≤ n
-    → at + 16 ≤ length list
-    → set ≡ take 8 (drop (at + 8) list)
-eight-words list at {set} w h room =
-    let long : length (take 8 (drop (at + 8) list)) ≡ 8
-    = length-take-le 8 (drop (at + 8) list) (simp length-drop (omega arith)) in
-    ext-getD 0 set (take 8 (drop (at + 8) list)) (w .eight ∙ sym long)
-    (λ i l. w .at i (omega (arith, w .eight)) ∙ ap (λ j. getD list j 0) (sym (add-assoc at 8 i))
-    ∙ sym (getD-take 8 (drop (at + 8) list) i 0 (omega (arith, w .eight)) ∙ getD-drop (at + 8) list i 0))
 
 -- A row of 12 words that is written before row `end`.
 pub wrote-one : {code code′ row : List ℕ} {end : ℕ} → 0 < end → length row ≡ rowWords

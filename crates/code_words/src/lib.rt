@@ -4,43 +4,12 @@ ghost use mathlib.Core.List.{_∷_, _++_};
 ghost use Prim.Native.Nat.{_+_, _-_, _*_, _≤_, _<_};
 ghost use lib.ListN.{length, take, drop};
 ghost use Rattle.meaning.specs.Limits.{rowWords};
+ghost use Rattle.machine.specs.Kinds.{consumeKind};
 ghost use Rattle.machine.specs.Words.{plainWords};
-ghost use Rattle.table.specs.Table.{recordWords};
-ghost use Rattle.code_words.specs.Wrote.{wordOf, Room, Wrote};
+ghost use Rattle.code_words.specs.Wrote.{Room, Wrote};
 use machine::CONSUME;
 use meaning::limits::ROW_WORDS;
 use meaning::limits::SET_WORDS;
-use table::RECORD_WORDS;
-use table::RECORDS;
-use table::SET;
-
-// Word `which` of the record before record number `top`.
-pub fn word(table: &[u32], top: usize, which: usize) -> u32
-    requires { ⌜ (0 < top) × (which < recordWords) × (recordWords * top ≤ length (now table)) ⌝ }
-    ensures { λ r. ⌜ r ≡ wordOf (now (table .entry)) top which ⌝ }
-{
-    table[RECORD_WORDS * (top - 1) + which]
-}
-
-// Where the part before the one that ends at `top` ends.
-pub fn previous(table: &[u32], top: usize) -> usize
-    requires { ⌜ (0 < top) × (recordWords * top ≤ length (now table)) × (wordOf (now table) top 2 ≤ top) ⌝ }
-    ensures { λ r. ⌜ r ≡ top - wordOf (now (table .entry)) top 2 ⌝ }
-{
-    top - word(table, top, RECORDS) as usize
-}
-
-// The byte set of that record.
-pub fn set_of(table: &[u32], top: usize) -> [u32; SET_WORDS]
-    requires { ⌜ (0 < top) × (recordWords * top ≤ length (now table)) ⌝ }
-    ensures { λ r. ⌜ r ≡ take 8 (drop (recordWords * (top - 1) + 8) (now (table .entry))) ⌝ }
-{
-    let mut set = [0u32; SET_WORDS];
-    for i in 0..SET_WORDS {
-        set[i] = word(table, top, SET + i);
-    }
-    set
-}
 
 // The words of a row that has two operands and no set.
 pub fn plain(kind: u32, a: u32, b: u32) -> [u32; ROW_WORDS]
@@ -55,7 +24,7 @@ pub fn plain(kind: u32, a: u32, b: u32) -> [u32; ROW_WORDS]
 
 // The words of a row that consumes a byte of a set.
 pub fn consuming(set: [u32; SET_WORDS]) -> [u32; ROW_WORDS]
-    ensures { λ r. ⌜ r ≡ 2 ∷ 0 ∷ 0 ∷ 0 ∷ set ⌝ }
+    ensures { λ r. ⌜ r ≡ consumeKind ∷ 0 ∷ 0 ∷ 0 ∷ set ⌝ }
 {
     let mut row = plain(CONSUME, 0, 0);
     for i in 0..SET_WORDS {

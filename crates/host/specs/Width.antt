@@ -6,7 +6,7 @@ use mathlib.Core.List.{[], _∷_}
 use Prim.Native.Nat.{ℕ, zero, suc, _+_, _-_}
 use lib.IntN.{negsuc}
 use lib.ListN.{length, length-set, length-map, length-replicate}
-use Rattle.meaning.specs.Reach.{All, all-append}
+use Rattle.meaning.specs.All.{All, all-append}
 use Rattle.meaning.specs.Tests.{by-test}
 use Rattle.meaning.specs.Text.{Input, Regs, registersOf, unset, opened, closed, wiped, cleared, fits, holdsAt}
 use Rattle.machine.specs.Rows.{Row, Row.accept, Row.consume, Row.jump, Row.fork, Row.opens, Row.closes, Row.reset}

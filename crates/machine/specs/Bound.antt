@@ -11,7 +11,7 @@ use native.Mathlib.Decide.{decLt}
 use lib.ListN.{length, length-append}
 use Rattle.meaning.specs.Tests.{eq-true, by-test}
 use Rattle.meaning.specs.Text.{Regs}
-use Rattle.meaning.specs.Reach.{All, all-append}
+use Rattle.meaning.specs.All.{All, all-append}
 use Rattle.machine.specs.Rows.{Key, at}
 use Rattle.machine.specs.Steps.{Move, Move.win, Move.lose, Move.eat, Move.on, Move.both, Thread, thread, Machine}
 use Rattle.machine.specs.Steps.{Machine.machine}

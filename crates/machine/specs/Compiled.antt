@@ -12,7 +12,7 @@ use borrow.Author.Tests.{lt-ltb, le-leb, eq-eqb}
 use Rattle.sets.specs.Sets.{Formed}
 use Rattle.sets.specs.Bits.{below-all}
 use Rattle.sets.specs.Laws.{setOf-holds}
-use Rattle.meaning.specs.Node.{Node, Node.bset, Node.group, Node.many, lo, hi, Proper}
+use Rattle.meaning.specs.Node.{Node, Node.bset, Node.group, Node.many, lo, hi, Proper, within-fewer}
 use Rattle.meaning.specs.Numbering.{Numbers, Range, range, forwards}
 use Rattle.machine.specs.Rows.{Row, Row.accept, Row.consume, Row.jump, Row.fork, Row.opens, Row.closes, Row.reset}
 use Rattle.machine.specs.Rows.{Row.begin, Row.end, Row.assertion}
@@ -83,7 +83,7 @@ module _ (rows : List Row) (n g : ℕ) (P : Row → Type 0) (rules : Rules n g P
   laid-pass (inside {n = k} {r = r} {q = q} {m = m} e l e′) a b pos top num ok h =
       let d : suc q ≤ m = grows l in
       let least : k ≤ g = omega (arith, num .0, forwards r (suc a) b (omega arith) (num .1)) in
-      let body : Pass (suc q) m = laid-pass l (suc a) b (omega arith) top (num .1) ok (omega arith) in
+      let body : Pass (suc q) m = laid-pass l (suc a) b (omega arith) top (num .1) (ok .1) (omega arith) in
       cons q (suc m) e (rules .groups k least .0)
       (join (suc q) m (suc m) body (cons m (suc m) e′ (rules .groups k least .1) (nil (suc m))))
   laid-pass (chain {r = r} {s = s} {q = q} {m = m} {k = k} l l′) a b pos top num ok h =
@@ -100,22 +100,23 @@ module _ (rows : List Row) (n g : ℕ) (P : Row → Type 0) (rules : Rules n g P
       cons q k e (rules .forks (suc q) (suc m) (omega arith) (omega arith))
       (join (suc q) m k (laid-pass l a (num .0) pos (omega arith) (num .1) (ok .0) (omega arith))
       (cons m k e′ (rules .jumps k h) (laid-pass l′ (num .0) b (omega arith) top (num .2) (ok .1) h)))
-  laid-pass (must {r = r} {q = q} {m = m} {k = k} e l l′) a b pos top num ok h =
+  laid-pass (must {n = n} {e = more} {r = r} {q = q} {m = m} {k = k} e l l′) a b pos top num ok h =
       let d : suc q ≤ m = grows l in
       let d′ : m ≤ k = grows l′ in
       cons q k e (clears a b (lo r) (hi r) pos top (range r a b pos num))
-      (join (suc q) m k (laid-pass l a b pos top num ok (omega arith)) (laid-pass l′ a b pos top num ok h))
+      (join (suc q) m k (laid-pass l a b pos top num (ok .1) (omega arith))
+      (laid-pass l′ a b pos top num (within-fewer n more (ok .0), ok .1) h))
   laid-pass (stop {q = q}) a b pos top num ok h = nil q
   laid-pass (may {r = r} {q = q} {m = m} {k = k} t l l′) a b pos top num ok h =
       let d : suc (suc (suc q)) ≤ m = grows l in
       let d′ : suc m ≤ k = grows l′ in
       join q (suc m) k
-      (turn t (clears a b (lo r) (hi r) pos top (range r a b pos num)) (laid-pass l a b pos top num ok (omega arith))
+      (turn t (clears a b (lo r) (hi r) pos top (range r a b pos num)) (laid-pass l a b pos top num (ok .1) (omega arith))
       (omega arith) h (omega arith) d)
-      (laid-pass l′ a b pos top num ok h)
+      (laid-pass l′ a b pos top num (omega arith, ok .1) h)
   laid-pass (loop {r = r} {q = q} {m = m} t l) a b pos top num ok h =
       let d : suc (suc (suc q)) ≤ m = grows l in
-      turn t (clears a b (lo r) (hi r) pos top (range r a b pos num)) (laid-pass l a b pos top num ok (omega arith))
+      turn t (clears a b (lo r) (hi r) pos top (range r a b pos num)) (laid-pass l a b pos top num (ok .1) (omega arith))
       (omega arith) h (omega arith) d
 
   -- So do those of a pattern as group 0.
@@ -138,8 +139,8 @@ every-row g r num ok P rules q h =
     let d : suc k ≡ n = s .ends in
     let d₅ : matchRow ≤ k = grows (s .pattern) in
     let prefix : Pass rows n g P rules 0 matchRow
-    = laid-pass rows n g P rules (s .prefix) 1 1 (omega arith) (omega arith) refl (setOf-holds (λ b. true) .formed)
-    (omega arith) in
+    = laid-pass rows n g P rules (s .prefix) 1 1 (omega arith) (omega arith) refl
+    (omega arith, setOf-holds (λ b. true) .formed) (omega arith) in
     let pattern : Pass rows n g P rules matchRow k = whole-pass rows n g P rules (s .pattern) num ok (omega arith) in
     let last : Pass rows n g P rules k (suc k)
     = cons rows n g P rules k (suc k) (s .accepts) (rules .accepts) (nil rows n g P rules (suc k)) in

@@ -61,7 +61,3 @@ assertKind = 10
 -- The kinds that are listed: from the first to the last.
 abbrev pub listed : ℕ → Bool
 listed kind = between acceptKind assertKind kind
-
--- The highest of the assertions 0 `^`, 1 `$`, 2 `\b`, 3 `\B`.
-abbrev pub lastAssertion : ℕ
-lastAssertion = 3

@@ -16,7 +16,7 @@ use Rattle.sets.specs.Sets.{below}
 use Rattle.sets.specs.Bits.{below-at}
 use Rattle.meaning.specs.Tests.{and-true, by-test}
 use Rattle.meaning.specs.Text.{Input, Regs, size, fits, holdsAt, fits-within}
-use Rattle.meaning.specs.Reach.{All}
+use Rattle.meaning.specs.All.{All}
 use Rattle.machine.specs.Rows.{Row, Row.accept, Row.consume, Row.jump, Row.fork, Row.opens, Row.closes, Row.reset}
 use Rattle.machine.specs.Rows.{Row.begin, Row.end, Row.assertion}
 use Rattle.machine.specs.Rows.{Program, rowCount, rowAt, Key, at}

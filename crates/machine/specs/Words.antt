@@ -7,8 +7,8 @@ use lib.Dec.{eqb, leb, ltb}
 use lib.ListN.{length, getD, take, drop, replicate}
 use Rattle.sets.specs.Sets.{below, between}
 use Rattle.meaning.specs.Results.{concatMap}
-use Rattle.meaning.specs.Limits.{groupLimit, rowLimit, leastRows, rowWords, setWords, codeWords}
-use Rattle.machine.specs.Kinds.{rowsWord, groupsWord, headerZeros, firstWord, secondWord, setWord, listed, lastAssertion}
+use Rattle.meaning.specs.Limits.{groupLimit, rowLimit, leastRows, rowWords, setWords, codeWords, lastAssertion}
+use Rattle.machine.specs.Kinds.{rowsWord, groupsWord, headerZeros, firstWord, secondWord, setWord, listed}
 use Rattle.machine.specs.Kinds.{acceptKind, consumeKind, jumpKind, forkKind, openKind, closeKind, resetKind, beginKind}
 use Rattle.machine.specs.Kinds.{endKind, assertKind}
 use Rattle.machine.specs.Rows.{Row, Row.accept, Row.consume, Row.jump, Row.fork, Row.opens, Row.closes, Row.reset}

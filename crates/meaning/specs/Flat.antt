@@ -2,7 +2,7 @@
 use mathlib.Core.Path.{_≡_, refl, sym, ap, _∙_}
 use mathlib.Core.List.{List, [], _∷_}
 use Rattle.meaning.specs.Node.{Node, Node.empty, Node.bset, Node.assert, Node.group, Node.seq, Node.alt, Node.many, Proper}
-use Rattle.meaning.specs.Reach.{All}
+use Rattle.meaning.specs.All.{All}
 
 -- The two kinds of pattern that have parts in a row: a sequence has items, an alternation alternatives.
 pub data Kind : Type 0 where
@@ -88,14 +88,17 @@ pub join-parts : (k : Kind) (r : Node) → join k (parts k r) ≡ r
 join-parts k r = by-parts k (λ r l. (join k l ≡ r) × ((s : Node) → link k s l ≡ pair k s r)) (λ r h. (refl, λ s. refl))
     (λ r q l h. (h .1 r, λ s. ap (pair k s) (h .1 r))) r .0
 
--- And a list of parts that are not of the kind is the list of the parts of what it makes up.
-pub parts-link : (k : Kind) (r : Node) (l : List Node) → Not k r → All (Not k) l → parts k (link k r l) ≡ r ∷ l
-unfolding parts
-parts-link k r [] n h = by-parts k (λ r l. Not k r → l ≡ r ∷ []) (λ r h n. refl) (λ r q l e n. absurd (no-pair k r q n)) r n
+-- What is not of a kind is its own only part, and a list of such parts is the list of the parts of what it makes up.
+pub parts-alone : (k : Kind) (r : Node) → Not k r → parts k r ≡ r ∷ []
+parts-alone k = by-parts k (λ r l. Not k r → l ≡ r ∷ []) (λ r h n. refl) (λ r q l e n. absurd (no-pair k r q n))
   where
     no-pair : (k : Kind) (r q : Node) → Not k (pair k r q) → ⊥
     no-pair sequence r q n = n
     no-pair alternation r q n = n
+
+pub parts-link : (k : Kind) (r : Node) (l : List Node) → Not k r → All (Not k) l → parts k (link k r l) ≡ r ∷ l
+unfolding parts
+parts-link k r [] n h = parts-alone k r n
 parts-link sequence r (q ∷ l) n h = ap (λ m. r ∷ m) (parts-link sequence q l (h .0) (h .1))
 parts-link alternation r (q ∷ l) n h = ap (λ m. r ∷ m) (parts-link alternation q l (h .0) (h .1))
 

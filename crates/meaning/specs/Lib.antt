@@ -1,4 +1,5 @@
 pub mod Tests
+pub mod All
 pub mod Text
 pub mod Node
 pub mod Flat

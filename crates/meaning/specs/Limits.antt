@@ -17,6 +17,10 @@ countLimit = 1000
 abbrev pub noMaximum : ℕ
 noMaximum = countLimit + 1
 
+-- The highest of the assertions 0 `^`, 1 `$`, 2 `\b`, 3 `\B`.
+abbrev pub lastAssertion : ℕ
+lastAssertion = 3
+
 -- The deepest parentheses (refusal 13).
 abbrev pub depthLimit : ℕ
 depthLimit = 32

@@ -5,20 +5,12 @@ use mathlib.Core.Option.{Option}
 use mathlib.Core.List.{List, [], _∷_, _++_, append-nil}
 use Prim.Native.Nat.{ℕ, zero, suc, _+_, _≤_, _<_}
 use native.Mathlib.Omega.{arith}
+use Rattle.meaning.specs.All.{All, all-append}
 use Rattle.meaning.specs.Tests.{lt-of, here, cond-cong, by-test}
 use Rattle.meaning.specs.Text.{Input, State, size, fits, holdsAt, fits-within}
 use Rattle.meaning.specs.Node.{Node, Node.empty, Node.bset, Node.assert, Node.group, Node.seq, Node.alt, Node.many}
 use Rattle.meaning.specs.Results.{firstSome, concatMap, choose, later, moved, enter, leave, fresh, forced, turns, limit}
 use Rattle.meaning.specs.Results.{results}
-
--- P holds of every element.
-abbrev pub All : {A : Type 0} → (A → Type 0) → List A → Type 0
-All P [] = Unit {0}
-All P (x ∷ l) = P x × All P l
-
-pub all-append : {A : Type 0} (P : A → Type 0) (l m : List A) → All P l → All P m → All P (l ++ m)
-all-append P [] m h g = g
-all-append P (x ∷ l) m h g = (h .0, all-append P l m (h .1) g)
 
 all-concatMap : {A B : Type 0} (P : A → Type 0) (Q : B → Type 0) (f : A → List B) (l : List A)
     → All P l → ((x : A) → P x → All Q (f x)) → All Q (concatMap f l)

@@ -15,10 +15,11 @@ use Rattle.meaning.specs.Node.{Node, Proper}
 use Rattle.meaning.specs.Flat.{Kind, Kind.sequence, Kind.alternation, Not, Flat, parts, join}
 use Rattle.meaning.specs.Results.{concatMap}
 use Rattle.table.specs.Table.{recordWords, recordCount, records}
-use Rattle.table.specs.Laws.{Each, each-append, countAll, records-append, long, long-all, parts-proper, parts-flat}
+use Rattle.meaning.specs.All.{All, all-append}
+use Rattle.table.specs.Laws.{countAll, records-append, long, long-all, parts-proper, parts-flat}
 use Rattle.table.specs.Derived.{recordLimit}
-use Rattle.table.specs.Stands.{Stands, Row}
-use Rattle.table.specs.Roots.{stands-long, fewer, row-few}
+use Rattle.table.specs.Stands.{Stands, SomePart, Series}
+use Rattle.table.specs.Roots.{stands-long, fewer, series-few}
 use Rattle.reading_atoms.specs.Chars.{byteAt, noByte, bar, openParen, endsSequence}
 use Rattle.reading_atoms.specs.Places.{byte-within}
 use Rattle.reading_items.specs.Parts.{count-parts}
@@ -28,8 +29,8 @@ use Rattle.reading_items.specs.Read.{atom-laws}
 use Rattle.reading_items.specs.Reading.{Part, Part.part, Part.turned, andThen, closed, sequenceGo, alternativesGo, itemAt}
 use Rattle.reading_items.specs.Reading.{sequenceAt}
 use Rattle.reading_items.specs.Reading.{alternativesAt}
-use Rattle.reading_items.specs.Meets.{Fine, Behind, Room, SomePart, Meets, MeetsBy, OpensAt, Opens, OpensBy, grouped, Closes}
-use Rattle.reading_items.specs.Meets.{rowKind}
+use Rattle.reading_items.specs.Meets.{Fine, Behind, Room, Meets, MeetsBy, OpensAt, Opens, OpensBy, grouped, Closes}
+use Rattle.reading_items.specs.Meets.{seriesKind}
 use Rattle.reading_items.specs.Meets.{Gathered, SomeGathered, Joins, Splices}
 use Rattle.reading_items.specs.declared.parts.Got.{Got}
 use Rattle.reading_items.specs.declared.parts.Got.the-variants.{Part as GotPart, Refused as GotRefused}
@@ -95,7 +96,8 @@ part-top table top r {table′} {t} room proper h =
 
 pub some-part : {x : Part} {a t g : ℕ} {before table′ : List ℕ} (p : Got-part x a t g before table′) → Proper (p .node)
     → SomePart table′ t
-some-part {before = before} p h = record { before = before; node = p .node; proper = h; stands = p .stands }
+some-part {before = before} p h =
+    record { before = before; part = p .node; ends = record { stands = p .stands; proper = h } }
 
 -- ---- the loops: the reading from here on is the reading of the whole; `items` are the parts that were gathered, and fuel what
 -- is left
@@ -122,14 +124,13 @@ start {s} {table} {at} {g} {top} go k f = record {
   few = f .few;
   room = f .room;
   gathered = record {
-    row = record {
+    series = record {
       stands = record {
         below = sym (append-nil (take (recordWords * top) table));
         room = omega (arith, f .room, f .within, f .words);
       };
       counted = refl;
       proper = tt;
-      low = omega (arith, f .room, f .within, f .short);
     };
     apart = tt;
   };
@@ -149,40 +150,44 @@ module _ {go : ℕ → List Node → ℕ → ℕ → Part} {k : Kind} {s table�
   }
 
   -- One part more, whose own parts are spliced in.
-  pub record More (table′ : List ℕ) (r : Node) (row : Spliced) : Type 0 where
-    pub gathered : Gathered k table′ (row .top) (count + row .items) (take (recordWords * top) table₀) (i .items ++ parts k r)
-    pub grown : row .top ≤ next + recordCount r
+  pub record More (table′ : List ℕ) (r : Node) (spliced : Spliced) : Type 0 where
+    pub gathered :
+        Gathered k table′ (spliced .top) (count + spliced .items) (take (recordWords * top) table₀) (i .items ++ parts k r)
+    pub grown : spliced .top ≤ next + recordCount r
+    pub small : count + spliced .items < recordLimit
 
-  pub more : {table′ : List ℕ} {t : ℕ} {r : Node} {row : Spliced} → Proper r → Flat r → next + recordCount r ≤ 2 * length s + 1
-      → Stands table′ t (take (recordWords * next) table ++ records r) → Splices table′ t (rowKind k) row → More table′ r row
-  more {table′} {t} {r} {row} proper flat bound stands splices =
+  pub more : {table′ : List ℕ} {t : ℕ} {r : Node} {part : Spliced} → Proper r → Flat r → next + recordCount r ≤ 2 * length s + 1
+      → Stands table′ t (take (recordWords * next) table ++ records r) → Splices table′ t (seriesKind k) part
+      → More table′ r part
+  more {table′} {t} {r} {part} proper flat bound stands splices =
       let before : List ℕ = take (recordWords * top) table₀ in
       let here : List ℕ = take (recordWords * next) table in
-      let spliced = splices .by k refl here r proper stands in
-      let all : Each Proper (parts k r) = parts-proper k r proper in
-      let grown : row .top ≡ next + countAll (parts k r) = omega (
+      let spliced = splices .by k refl here r (record { stands = stands; proper = proper }) in
+      let all : All Proper (parts k r) = parts-proper k r proper in
+      let grown : part .top ≡ next + countAll (parts k r) = omega (
         arith,
         stands-long (spliced .0),
         length-append here (concatMap records (parts k r)),
         length-take (recordWords * next) table,
-        i .gathered .row .stands .room,
+        i .gathered .series .stands .room,
         long-all (parts k r) all,
       ) in
       let words : here ++ concatMap records (parts k r) ≡ before ++ concatMap records (i .items ++ parts k r) =
-      ap (λ l. l ++ concatMap records (parts k r)) (i .gathered .row .stands .below)
+      ap (λ l. l ++ concatMap records (parts k r)) (i .gathered .series .stands .below)
       ∙ append-assoc before (concatMap records (i .items)) (concatMap records (parts k r))
       ∙ ap (λ l. before ++ l) (sym (records-append (i .items) (parts k r))) in
+      let series : Series table′ (part .top) (count + part .items) before (i .items ++ parts k r) = record {
+        stands = rw words at (spliced .0);
+        counted = omega (arith, i .gathered .series .counted, spliced .1, length-append (i .items) (parts k r));
+        proper = all-append Proper (i .items) (parts k r) (i .gathered .series .proper) all;
+      } in
       record {
         gathered = record {
-          row = record {
-            stands = rw words at (spliced .0);
-            counted = omega (arith, i .gathered .row .counted, spliced .1, length-append (i .items) (parts k r));
-            proper = each-append Proper (i .items) (parts k r) (i .gathered .row .proper) all;
-            low = omega (arith, grown, count-parts k r, f .short);
-          };
-          apart = each-append (Not k) (i .items) (parts k r) (i .gathered .apart) (parts-flat k r flat);
+          series = series;
+          apart = all-append (Not k) (i .items) (parts k r) (i .gathered .apart) (parts-flat k r flat);
         };
         grown = omega (arith, grown, count-parts k r);
+        small = omega (arith, series .counted, fewer (i .items ++ parts k r), series-few series, grown, count-parts k r, f .short);
       }
 
   less : (n : ℕ) → 0 < n → (m : ℕ) × (n ≡ suc m)
@@ -190,11 +195,11 @@ module _ {go : ℕ → List Node → ℕ → ℕ → Part} {k : Kind} {s table�
   less (suc m) p = (m, refl)
 
   -- The loop goes on at b with one turn less.
-  pub turn : {table′ : List ℕ} {r : Node} {row : Spliced} (b g′ : ℕ) → More table′ r row → length table′ ≡ length table
+  pub turn : {table′ : List ℕ} {r : Node} {spliced : Spliced} (b g′ : ℕ) → More table′ r spliced → length table′ ≡ length table
       → here < b → b ≤ length s → g′ ≤ groupLimit → next + recordCount r ≤ 2 * b
       → ((n : ℕ) → go (suc n) (i .items) here seen ≡ go n (i .items ++ parts k r) b g′)
-      → Inv go k s table₀ table′ at groups top b g′ (row .top) (count + row .items)
-  turn {table′} {r} {row} b g′ m e past inside few bound step =
+      → Inv go k s table₀ table′ at groups top b g′ (spliced .top) (count + spliced .items)
+  turn {table′} {r} {spliced} b g′ m e past inside few bound step =
       let l = less (i .fuel) (omega (arith, i .enough)) in
       record {
         fuel = l .0;
@@ -208,16 +213,11 @@ module _ {go : ℕ → List Node → ℕ → ℕ → Part} {k : Kind} {s table�
         kept = e ∙ i .kept;
       }
 
--- There are fewer parts than records.
-pub row-small : {table : List ℕ} {top count : ℕ} {before : List ℕ} {l : List Node} → Row table top count before l
-    → count < recordLimit
-row-small {l = l} row = omega (arith, row .counted, fewer l, row-few row, row .low)
-
 -- Parts that were gathered are closed where there is room for a record.
 pub closable : (s : List ℕ) {table : List ℕ} {top count : ℕ} {before : List ℕ} {l : List Node} (k : Kind)
     → Gathered k table top count before l
     → length s ≤ patternLimit → top ≤ 2 * length s + 1 → tableWords (length s) ≤ length table
-    → SomeGathered table top (rowKind k) count
+    → SomeGathered table top (seriesKind k) count
 closable s {before = before} {l = l} k g short room words = record {
   k = k;
   is-kind = refl;
@@ -228,7 +228,7 @@ closable s {before = before} {l = l} k g short room words = record {
 }
 
 pub joined-meets : {x : Part} {table table′ : List ℕ} {top count end : ℕ} {before : List ℕ} {l : List Node} (k : Kind) (at g : ℕ)
-    → x ≡ part (join k l) at g → Gathered k table top count before l → Joins table table′ top (rowKind k) count end
+    → x ≡ part (join k l) at g → Gathered k table top count before l → Joins table table′ top (seriesKind k) count end
     → Meets x (GotPart at end g) before table′
 joined-meets {end = end} {before = before} {l = l} k at g e h j = rw e (record { by = (end, refl, j .by k refl before l h) })
 

@@ -85,11 +85,11 @@ fn sequence(s: &[u8], at: usize, depth: u32, groups: u32, table: &mut [u32], top
                 top: t,
                 groups: g,
             } => {
-                let row = splice(table, t, SEQUENCE);
+                let spliced = splice(table, t, SEQUENCE);
                 here = a;
                 seen = g;
-                next = row.top;
-                count += row.items;
+                next = spliced.top;
+                count += spliced.items;
             }
         }
     }
@@ -121,11 +121,11 @@ fn alternatives(s: &[u8], at: usize, depth: u32, groups: u32, table: &mut [u32],
                 top: t,
                 groups: g,
             } => {
-                let row = splice(table, t, ALTERNATION);
+                let spliced = splice(table, t, ALTERNATION);
                 here = a;
                 seen = g;
-                next = row.top;
-                count += row.items;
+                next = spliced.top;
+                count += spliced.items;
             }
         }
         if byte_at(s, here) != b'|' as u32 {

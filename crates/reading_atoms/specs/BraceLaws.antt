@@ -10,6 +10,7 @@ use lib.ListN.{length}
 use borrow.Author.Tests.{eqb-true, ltb-true, ltb-false, lt-ltb, ne-eqb}
 use Rattle.sets.specs.Sets.{isDigit}
 use Rattle.meaning.specs.Limits.{countLimit, noMaximum}
+use Rattle.meaning.specs.Node.{Within}
 use Rattle.reading_atoms.specs.Chars.{byteAt, choose, star, plus, question, openBrace, closeBrace, comma}
 use Rattle.reading_atoms.specs.Braces.{Braces, Braces.counts, Braces.refused, Number, numberGo, numberAt}
 use Rattle.reading_atoms.specs.Braces.{judged, unlimited, afterComma, bracesAt}
@@ -27,15 +28,10 @@ BracesBy s at (refused number) = Unit {0}
 pub record BracesFine (s : List ℕ) (at : ℕ) (x : Braces) : Type 0 where
   pub by : BracesBy s at x
 
--- A minimum and what may be added to it, within the limit.
-abbrev pub Limited : ℕ → Option ℕ → Type 0
-Limited min none = Unit {0}
-Limited min (some extra) = min + extra ≤ countLimit
-
 -- What a quantifier answers.
 abbrev pub QuantifierBy : List ℕ → ℕ → Quantifier → Type 0
 QuantifierBy s at once = Unit {0}
-QuantifierBy s at (repeated min extra lazy end) = (at < end) × (end ≤ length s) × (min ≤ countLimit) × Limited min extra
+QuantifierBy s at (repeated min extra lazy end) = (at < end) × (end ≤ length s) × Within min extra
 QuantifierBy s at (miscounted number place) = Unit {0}
 
 pub record QuantifierFine (s : List ℕ) (at : ℕ) (x : Quantifier) : Type 0 where
@@ -103,9 +99,9 @@ module _ (s : List ℕ) (at : ℕ) where
 
   lazily-fine : (x : Braces) → BracesFine s at x → QuantifierFine s at (lazily s at x)
   lazily-fine (counts min none end) f =
-      let e = behind end (f .by .0) (f .by .1) in record { by = (e .0, e .1, f .by .2, tt) }
+      let e = behind end (f .by .0) (f .by .1) in record { by = (e .0, e .1, f .by .2) }
   lazily-fine (counts min (some max) end) f =
-      let e = behind end (f .by .0) (f .by .1) in record { by = (e .0, e .1, omega arith, omega arith) }
+      let e = behind end (f .by .0) (f .by .1) in record { by = (e .0, e .1, omega arith) }
   lazily-fine (refused number) f = record { by = tt }
 
   pub quantifier-fine : QuantifierFine s at (quantifierAt s at)

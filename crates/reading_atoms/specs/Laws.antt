@@ -8,7 +8,7 @@ use native.Mathlib.Omega.{arith}
 use lib.ListN.{length}
 use Rattle.sets.specs.Sets.{Formed}
 use Rattle.meaning.specs.Bytes.{Bytes}
-use Rattle.meaning.specs.Limits.{countLimit}
+use Rattle.meaning.specs.Node.{Within}
 use Rattle.reading_atoms.specs.Escapes.{Escape.byte, Escape.named, Escape.assertion, escapeAt}
 use Rattle.reading_atoms.specs.Classes.{Class.holds, Class.broken, classAt}
 use Rattle.reading_atoms.specs.Braces.{Quantifier.repeated, quantifierAt}
@@ -16,7 +16,7 @@ use Rattle.reading_atoms.specs.Answers.{classOf}
 use Rattle.reading_atoms.specs.declared.classes.Class.{Class}
 use Rattle.reading_atoms.specs.EscapeLaws.{escape-fine}
 use Rattle.reading_atoms.specs.ClassLaws.{class-fine}
-use Rattle.reading_atoms.specs.BraceLaws.{Limited, quantifier-fine}
+use Rattle.reading_atoms.specs.BraceLaws.{quantifier-fine}
 
 module _ (inClass : Bool) (s : List ℕ) (at : ℕ) (fine : Bytes s) where
   -- A byte, with the place behind it.
@@ -46,5 +46,5 @@ class-holds s at fine e = let f = rw e at (class-fine s at fine) in (f .by .0, o
 -- A quantifier's counts, with the place behind it.
 pub quantifier-repeated : (s : List ℕ) (at : ℕ) {min : ℕ} {extra : Option ℕ} {lazy : Bool} {end : ℕ}
     → quantifierAt s at ≡ repeated min extra lazy end
-    → (at < end) × (end ≤ length s) × (min ≤ countLimit) × Limited min extra
+    → (at < end) × (end ≤ length s) × Within min extra
 quantifier-repeated s at e = (rw e at (quantifier-fine s at)) .by

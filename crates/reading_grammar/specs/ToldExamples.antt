@@ -12,7 +12,7 @@ use Rattle.sets.specs.Sets.{isDigit, isWord}
 use Rattle.meaning.specs.Quoted.{bytes}
 use Rattle.meaning.specs.Limits.{tableWords}
 use Rattle.meaning.specs.Tests.{and-true}
-use Rattle.meaning.specs.Reach.{All}
+use Rattle.meaning.specs.All.{All}
 use Rattle.meaning.specs.Node.{Node}
 use Rattle.meaning.specs.Flat.{parts}
 use Rattle.reading_atoms.specs.Escapes.{escapeAt}

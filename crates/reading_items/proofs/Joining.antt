@@ -1,4 +1,4 @@
--- Parts in a row, and what stands behind a part. Assumes nothing.
+-- Parts in a series, and what stands behind a part. Assumes nothing.
 use mathlib.Core.Path.{_≡_, refl, sym, ap, _∙_}
 use mathlib.Core.List.{List, [], _∷_, _++_, append-nil}
 use Prim.Native.Nat.{ℕ, zero, suc, _+_, _-_, _*_, _≤_, _<_}
@@ -6,16 +6,18 @@ use native.Mathlib.Omega.{arith}
 use lib.ListN.{length, take, getD, replicate}
 use borrow.Author.Tests.{eq-eqb, ne-eqb}
 use Rattle.meaning.specs.Node.{Node, Node.empty, Node.bset, Node.assert, Node.group, Node.seq, Node.alt, Node.many, Proper}
-use Rattle.meaning.specs.Flat.{Kind, Kind.sequence, Kind.alternation, Not, parts, link, join}
+use Rattle.meaning.specs.Refusals as No
+use Rattle.meaning.specs.Flat.{Kind, Kind.sequence, Kind.alternation, Not, parts, link, join, parts-alone}
 use Rattle.meaning.specs.Results.{concatMap}
-use Rattle.table.specs.Table.{recordWords, recordCount, records}
-use Rattle.table.specs.Laws.{Each, inner, inner-link, kindOf, parts-alone}
-use Rattle.table.specs.Stands.{Stands, Row, Made, Putting, Puts}
-use Rattle.table.specs.Roots.{some-records, few-records, root-kind, root-items, parts-stand}
+use Rattle.table.specs.Table.{kindWord, itemsWord, emptyKind, noSet, recordWords, wordOf, recordCount, records}
+use Rattle.meaning.specs.All.{All}
+use Rattle.table.specs.Laws.{inner, inner-link, proper-link, kindOf}
+use Rattle.table.specs.Stands.{Stands, SomePart, Series, Made, Putting, Puts}
+use Rattle.table.specs.Roots.{some-records, few-records, root-kind, root-items, inside}
 use Rattle.reading_atoms.specs.Chars.{byteAt, closeParen}
 use Rattle.reading_atoms.specs.Places.{byte-within}
 use Rattle.reading_items.specs.Reading.{closed}
-use Rattle.reading_items.specs.Meets.{Behind, Room, SomePart, Meets, Quantifies, grouped, Groups, Closes, rowKind}
+use Rattle.reading_items.specs.Meets.{Behind, Room, Meets, Quantifies, grouped, Groups, Closes, seriesKind}
 use Rattle.reading_items.specs.Meets.{Gathered}
 use Rattle.reading_items.specs.Meets.{SomeGathered, Joins, Splices}
 use Rattle.reading_items.specs.declared.parts.Got.{Got}
@@ -23,8 +25,8 @@ use Rattle.reading_items.specs.declared.parts.Got.the-variants.{Refused 
 use Rattle.reading_items.specs.declared.series.Spliced.{Spliced}
 use Rattle.reading_items.proofs.Putting.{made, putting}
 
--- A pattern of the kind of a row holds the row's parts, and any other is not of that kind.
-kind-parts : (k : Kind) (r : Node) → kindOf r ≡ rowKind k → inner r ≡ parts k r
+-- A pattern of the kind of a series holds the series's parts, and any other is not of that kind.
+kind-parts : (k : Kind) (r : Node) → kindOf r ≡ seriesKind k → inner r ≡ parts k r
 unfolding inner parts
 kind-parts sequence (seq r q) e = refl
 kind-parts alternation (alt r q) e = refl
@@ -41,7 +43,7 @@ kind-parts alternation (group n r) e = absurd (omega arith)
 kind-parts alternation (seq r q) e = absurd (omega arith)
 kind-parts alternation (many n x lazy r) e = absurd (omega arith)
 
-kind-not : (k : Kind) (r : Node) → (kindOf r ≡ rowKind k → ⊥) → Not k r
+kind-not : (k : Kind) (r : Node) → (kindOf r ≡ seriesKind k → ⊥) → Not k r
 kind-not k empty f = tt
 kind-not k (bset s) f = tt
 kind-not k (assert a) f = tt
@@ -56,41 +58,36 @@ kind-not k (many n e lazy r) f = tt
 pub part-within : {table : List ℕ} {top : ℕ} → SomePart table top
     → (0 < top) × (0 < recordWords) × (recordWords * top ≤ length table)
 part-within p = (
-  omega (
-    arith,
-    some-records (p .before) (p .node) (p .proper) (p .stands),
-    few-records (p .before) (p .node) (p .proper)
-        (p .stands),
-  ),
+  omega (arith, some-records (p .ends), few-records (p .ends)),
   omega arith,
-  p .stands .room,
+  p .ends .stands .room,
 )
 
 pub part-within-items : {table : List ℕ} {top : ℕ} → SomePart table top
-    → (0 < top) × (3 < recordWords) × (recordWords * top ≤ length table)
-part-within-items p = (part-within p .0, omega arith, p .stands .room)
+    → (0 < top) × (itemsWord < recordWords) × (recordWords * top ≤ length table)
+part-within-items p = (part-within p .0, omega arith, p .ends .stands .room)
 
-pub splice-open : {table : List ℕ} {top kind items : ℕ} → getD table (recordWords * (top - 1) + 0) 0 ≡ kind
-    → items ≡ getD table (recordWords * (top - 1) + 3) 0 → Splices table top kind (record { top = top - 1; items = items })
+pub splice-open : {table : List ℕ} {top kind items : ℕ} → wordOf table top kindWord ≡ kind
+    → items ≡ wordOf table top itemsWord → Splices table top kind (record { top = top - 1; items = items })
 splice-open {table} {top} {kind} {items} e f = record {
-  by = λ k is before r proper stands.
-      let same : inner r ≡ parts k r = kind-parts k r (sym (root-kind before r proper stands) ∙ e ∙ is) in
-      (rw same at (parts-stand before r proper stands), f ∙ root-items before r proper stands ∙ ap length same);
+  by = λ k is before r ends.
+      let same : inner r ≡ parts k r = kind-parts k r (sym (root-kind ends) ∙ e ∙ is) in
+      (rw same at (inside ends .stands), f ∙ root-items ends ∙ ap length same);
 }
 
-pub splice-whole : {table : List ℕ} {top kind : ℕ} → (getD table (recordWords * (top - 1) + 0) 0 ≡ kind → ⊥)
+pub splice-whole : {table : List ℕ} {top kind : ℕ} → (wordOf table top kindWord ≡ kind → ⊥)
     → Splices table top kind (record { top = top; items = 1 })
 splice-whole {table} {top} {kind} f = record {
-  by = λ k is before r proper stands.
-      let alone : parts k r ≡ r ∷ [] = parts-alone k r (kind-not k r (λ e. f (root-kind before r proper stands ∙ e ∙ sym is))) in
-      rw alone (rw (append-nil (records r)) stands, refl);
+  by = λ k is before r ends.
+      let alone : parts k r ≡ r ∷ [] = parts-alone k r (kind-not k r (λ e. f (root-kind ends ∙ e ∙ sym is))) in
+      rw alone (rw (append-nil (records r)) (ends .stands), refl);
 }
 
 -- One part is what it is.
 pub join-one : {table : List ℕ} {top kind count : ℕ} → count ≡ 1 → Joins table table top kind count top
 join-one {table} {top} {kind} {count} e = record {
-  by = λ k is before l g. go k before l (sym (g .row .counted) ∙ e)
-      (g .row .stands);
+  by = λ k is before l g. go k before l (sym (g .series .counted) ∙ e)
+      (g .series .stands);
 }
   where
     go : (k : Kind) (before : List ℕ) (l : List Node) → length l ≡ 1 → Stands table top (before ++ concatMap records l)
@@ -101,91 +98,90 @@ join-one {table} {top} {kind} {count} e = record {
 
 -- None are an empty part.
 pub empty-putting : {table : List ℕ} {top kind count : ℕ} → count ≡ 0 → SomeGathered table top kind count
-    → Putting table top 1 0 0 (replicate 8 0)
+    → Putting table top emptyKind 0 0 noSet
 unfolding inner
-empty-putting {table} {top} {kind} {count} e s = go (s .parts) (s .gathered .row)
+empty-putting {table} {top} {kind} {count} e s = go (s .parts) (s .gathered .series)
   where
-    go : (l : List Node) → Row table top count (s .before) l → Putting table top 1 0 0 (replicate 8 0)
-    go [] row = putting {before = s .before} empty (rw e at row) tt refl (s .room)
-    go (r ∷ l) row = absurd (omega (arith, row .counted))
+    go : (l : List Node) → Series table top count (s .before) l → Putting table top emptyKind 0 0 noSet
+    go [] series = putting {before = s .before} empty (rw e at series) tt refl (s .room)
+    go (r ∷ l) series = absurd (omega (arith, series .counted))
 
-pub join-none : {table table′ : List ℕ} {top kind count : ℕ} → count ≡ 0 → Puts table table′ top 1 0 0 (replicate 8 0)
+pub join-none : {table table′ : List ℕ} {top kind count : ℕ} → count ≡ 0 → Puts table table′ top emptyKind 0 0 noSet
     → Joins table table′ top kind count (top + 1)
 unfolding inner
-join-none {table} {table′} {top} {kind} {count} e p = record { by = λ k is before l g. go k before l (g .row) }
+join-none {table} {table′} {top} {kind} {count} e p = record { by = λ k is before l g. go k before l (g .series) }
   where
-    go : (k : Kind) (before : List ℕ) (l : List Node) → Row table top count before l
+    go : (k : Kind) (before : List ℕ) (l : List Node) → Series table top count before l
         → Stands table′ (top + 1) (before ++ records (join k l))
-    go k before [] row = p .by before empty (made empty (rw e at row) tt) refl
-    go k before (r ∷ l) row = absurd (omega (arith, row .counted))
+    go k before [] series = p .by before empty (made empty (rw e at series) tt) refl
+    go k before (r ∷ l) series = absurd (omega (arith, series .counted))
 
 -- Two or more are closed by a record of their kind.
-row-made : {table : List ℕ} {top kind count : ℕ} (k : Kind) → kind ≡ rowKind k → (before : List ℕ) (r q : Node) (l : List Node)
+series-made : {table : List ℕ} {top kind count : ℕ} (k : Kind) → kind ≡ seriesKind k → (before : List ℕ) (r q : Node) (l : List Node)
     → Gathered k table top count before (r ∷ q ∷ l) → Made table top kind 0 count 0 0 before (link k r (q ∷ l))
-row-made sequence e before r q l g = rw e
-    (made (link sequence r (q ∷ l)) (rw (inner-link sequence r q l (g .apart)) (g .row)) tt)
-row-made alternation e before r q l g = rw e
-    (made (link alternation r (q ∷ l)) (rw (inner-link alternation r q l (g .apart)) (g .row)) tt)
+series-made sequence e before r q l g = rw e
+    (made (link sequence r (q ∷ l)) (rw (inner-link sequence r q l (g .apart)) (g .series)) (proper-link sequence r (q ∷ l) (g .series .proper)))
+series-made alternation e before r q l g = rw e
+    (made (link alternation r (q ∷ l)) (rw (inner-link alternation r q l (g .apart)) (g .series)) (proper-link alternation r (q ∷ l) (g .series .proper)))
 
-last-zero : (k : Kind) (r q : Node) (l : List Node) → replicate 8 0 ≡ Rattle.table.specs.Laws.lastOf (link k r (q ∷ l))
+last-zero : (k : Kind) (r q : Node) (l : List Node) → noSet ≡ Rattle.table.specs.Laws.lastOf (link k r (q ∷ l))
 last-zero sequence r q l = refl
 last-zero alternation r q l = refl
 
-pub row-putting : {table : List ℕ} {top kind count : ℕ} → (count ≡ 1 → ⊥) → (count ≡ 0 → ⊥) → SomeGathered table top kind count
-    → Putting table top kind 0 count (replicate 8 0)
-row-putting {table} {top} {kind} {count} one none s = go (s .parts) (s .gathered)
+pub series-putting : {table : List ℕ} {top kind count : ℕ} → (count ≡ 1 → ⊥) → (count ≡ 0 → ⊥) → SomeGathered table top kind count
+    → Putting table top kind 0 count noSet
+series-putting {table} {top} {kind} {count} one none s = go (s .parts) (s .gathered)
   where
-    go : (l : List Node) → Gathered (s .k) table top count (s .before) l → Putting table top kind 0 count (replicate 8 0)
-    go [] g = absurd (none (g .row .counted))
-    go (r ∷ []) g = absurd (one (g .row .counted))
+    go : (l : List Node) → Gathered (s .k) table top count (s .before) l → Putting table top kind 0 count noSet
+    go [] g = absurd (none (g .series .counted))
+    go (r ∷ []) g = absurd (one (g .series .counted))
     go (r ∷ q ∷ l) g = record {
       some = record {
         before = s .before;
         node = link (s .k) r (q ∷ l);
-        made = row-made (s .k) (s .is-kind)
-            (s .before) r q l g;
+        made = series-made (s .k) (s .is-kind) (s .before) r q l g;
+        low = s .room .low;
       };
       eight = refl;
       room = s .room .words;
     }
 
-pub join-row : {table table′ : List ℕ} {top kind count : ℕ} → (count ≡ 1 → ⊥) → (count ≡ 0 → ⊥)
-    → Puts table table′ top kind 0 count (replicate 8 0)
+pub join-series : {table table′ : List ℕ} {top kind count : ℕ} → (count ≡ 1 → ⊥) → (count ≡ 0 → ⊥)
+    → Puts table table′ top kind 0 count noSet
     → Joins table table′ top kind count (top + 1)
-join-row {table} {table′} {top} {kind} {count} one none p = record { by = λ k is before l g. go k is before l g }
+join-series {table} {table′} {top} {kind} {count} one none p = record { by = λ k is before l g. go k is before l g }
   where
-    go : (k : Kind) → kind ≡ rowKind k → (before : List ℕ) (l : List Node) → Gathered k table top count before l
+    go : (k : Kind) → kind ≡ seriesKind k → (before : List ℕ) (l : List Node) → Gathered k table top count before l
         → Stands table′ (top + 1) (before ++ records (join k l))
-    go k is before [] g = absurd (none (g .row .counted))
-    go k is before (r ∷ []) g = absurd (one (g .row .counted))
-    go k is before (r ∷ q ∷ l) g = p .by before (link k r (q ∷ l)) (row-made k is before r q l g) (last-zero k r q l)
+    go k is before [] g = absurd (none (g .series .counted))
+    go k is before (r ∷ []) g = absurd (one (g .series .counted))
+    go k is before (r ∷ q ∷ l) g = p .by before (link k r (q ∷ l)) (series-made k is before r q l g) (last-zero k r q l)
 
 -- ---- behind what a `(` opened
 proper-grouped : (k : ℕ) (r : Node) → Proper r → Proper (grouped k r)
 proper-grouped zero r p = p
-proper-grouped (suc k) r p = p
+proper-grouped (suc k) r p = (omega arith, p)
 
 pub some-group : {k top next : ℕ} {table table′ : List ℕ} → SomePart table top → Groups k top next table table′
     → SomePart table′ next
 some-group {k} p q = record {
   before = p .before;
-  node = grouped k (p .node);
-  proper = proper-grouped k (p .node) (p .proper);
-  stands = q .by (p .before) (p .node) (p .proper) (p .stands);
+  part = grouped k (p .part);
+  ends = record { stands = q .by (p .before) (p .part) (p .ends); proper = proper-grouped k (p .part) (p .ends .proper) };
 }
 
 module _ {s : List ℕ} {at k g top : ℕ} {table : List ℕ} where
-  pub unclosed : (byteAt s at ≡ closeParen → ⊥) → Closes s at k g top table table (GotRefused 11 at)
+  pub unclosed : (byteAt s at ≡ closeParen → ⊥) → Closes s at k g top table table (GotRefused No.unmatched at)
   unclosed f = record {
-    by = λ before r proper stands. rw (ne-eqb (byteAt s at) closeParen f) (record { by = (refl, omega arith) });
+    by = λ before r ends. rw (ne-eqb (byteAt s at) closeParen f) (record { by = (refl, omega arith) });
   }
 
   pub closes : {next : ℕ} {table′ table″ : List ℕ} {answer : Got} → byteAt s at ≡ closeParen → Groups k top next table table′
       → Quantifies s (at + 1) g next table′ table″ answer → Closes s at k g top table table″ answer
   closes e p q = record {
-    by = λ before r proper stands.
-        rw (eq-eqb (byteAt s at) closeParen e) (q .by before (grouped k r) (proper-grouped k r proper)
-        (p .by before r proper stands));
+    by = λ before r ends.
+        rw (eq-eqb (byteAt s at) closeParen e) (q .by before (grouped k r)
+        (record { stands = p .by before r ends; proper = proper-grouped k r (ends .proper) }));
   }
 
 -- Behind the `)` there is room for a quantifier's record, if there was room for two records for each byte before it.

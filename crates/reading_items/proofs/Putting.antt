@@ -10,15 +10,15 @@ use mir.Val.{boolByte}
 use lib.ListN.{length, take, getD, replicate}
 use borrow.Author.Tests.{eqb-true, eqb-false, eq-eqb, ne-eqb}
 use Rattle.sets.specs.Sets.{Formed}
-use Rattle.meaning.specs.Limits.{patternLimit, tableWords, countLimit, noMaximum}
-use Rattle.meaning.specs.Node.{Node, Node.empty, Node.bset, Node.assert, Node.group, Node.many, Proper}
+use Rattle.meaning.specs.Limits.{patternLimit, tableWords, lastAssertion, noMaximum}
+use Rattle.meaning.specs.Node.{Node, Node.empty, Node.bset, Node.assert, Node.group, Node.many, Within, Proper}
 use Rattle.meaning.specs.Flat.{Kind, Kind.sequence, Kind.alternation, Not, parts, link, join}
 use Rattle.meaning.specs.Results.{concatMap}
-use Rattle.table.specs.Table.{recordWords, maximum, bitOf, recordCount, records}
-use Rattle.table.specs.Laws.{Each, inner, inner-link, kindOf, operandOf, lastOf}
-use Rattle.table.specs.Derived.{recordLimit, Limited}
-use Rattle.table.specs.Stands.{Stands, Row, Made, SomeMade, Putting, Puts}
-use Rattle.table.specs.Roots.{stands-under, root-kind, root-items, parts-stand, few-records, some-records}
+use Rattle.table.specs.Table.{assertionKind, setKind, groupKind, quantifierKind, noSet, recordWords, maximum, bitOf, recordCount, records}
+use Rattle.meaning.specs.All.{All}
+use Rattle.table.specs.Laws.{inner, inner-link, kindOf, operandOf, lastOf}
+use Rattle.table.specs.Derived.{recordLimit}
+use Rattle.table.specs.Stands.{Stands, Ends, SomePart, Series, Made, Putting, Puts}
 use Rattle.reading_atoms.specs.Answers.{QuantifierIs, quantifierOf}
 use Rattle.reading_atoms.specs.Braces as braces
 use Rattle.reading_atoms.specs.Braces.{quantifierAt}
@@ -27,42 +27,40 @@ use Rattle.reading_atoms.specs.declared.braces.Quantifier.{Quantifier}
 use Rattle.reading_atoms.specs.declared.braces.Quantifier.the-variants.{Once, Repeated, Refused as Miscounted}
 use Rattle.reading_items.specs.Reading.{Part, Part.part, Part.turned, quantified, setItem, closed}
 use Rattle.reading_items.specs.Numbers.{miscounted-late}
-use Rattle.reading_items.specs.Meets.{Fine, Behind, Room, SomePart, Meets, Quantifies, grouped, Groups, Closes, rowKind}
+use Rattle.reading_items.specs.Meets.{Fine, Behind, Room, Meets, Quantifies, grouped, Groups, Closes}
 use Rattle.reading_items.specs.Meets.{Gathered}
 use Rattle.reading_items.specs.Meets.{SomeGathered, Joins, Splices}
 use Rattle.reading_items.specs.declared.parts.Got.{Got}
 use Rattle.reading_items.specs.declared.parts.Got.the-variants.{Part as GotPart, Refused as GotRefused}
 
 -- A record that closes the parts of a pattern is that pattern's own.
-pub made : {table : List ℕ} {top items : ℕ} {before : List ℕ} (r : Node) → Row table top items before (inner r) → Limited r
+pub made : {table : List ℕ} {top items : ℕ} {before : List ℕ} (r : Node) → Series table top items before (inner r) → Proper r
     → Made table top (kindOf r) (operandOf r) items (getD (lastOf r) 0 0) (getD (lastOf r) 1 0) before r
-made r row m = record { row = row; same-kind = refl; same-operand = refl; same-least = refl; same-most = refl; limited = m }
+made r series p =
+    record { series = series; same-kind = refl; same-operand = refl; same-least = refl; same-most = refl; proper = p }
 
-pub putting : {table : List ℕ} {top items : ℕ} {before : List ℕ} (r : Node) → Row table top items before (inner r) → Limited r
+pub putting : {table : List ℕ} {top items : ℕ} {before : List ℕ} (r : Node) → Series table top items before (inner r) → Proper r
     → length (lastOf r) ≡ 8 → Room table top → Putting table top (kindOf r) (operandOf r) items (lastOf r)
-putting {before = before} r row m eight room = record {
-  some = record { before = before; node = r; made = made r row m };
+putting {before = before} r series p eight room = record {
+  some = record { before = before; node = r; made = made r series p; low = room .low };
   eight = eight;
   room = room .words;
 }
 
 -- A part of its own stands on what stood below the top; one that holds a part stands on that part.
-pub row-none : {table : List ℕ} {top : ℕ} → Room table top → Row table top 0 (take (recordWords * top) table) []
-row-none {table} {top} room = record {
+pub series-none : {table : List ℕ} {top : ℕ} → Room table top → Series table top 0 (take (recordWords * top) table) []
+series-none {table} {top} room = record {
   stands = record { below = sym (append-nil (take (recordWords * top) table)); room = omega (arith, room .words) };
   counted = refl;
   proper = tt;
-  low = room .low;
 }
 
-pub row-one : {table : List ℕ} {top : ℕ} {before : List ℕ} {r : Node} → Room table top → Proper r
-    → Stands table top (before ++ records r)
-    → Row table top 1 before (r ∷ [])
-row-one {table} {top} {before} {r} room proper h = record {
-  stands = rw (append-nil (records r)) h;
+pub series-one : {table : List ℕ} {top : ℕ} {before : List ℕ} {r : Node} → Ends table top before r
+    → Series table top 1 before (r ∷ [])
+series-one {r = r} ends = record {
+  stands = rw (append-nil (records r)) (ends .stands);
   counted = refl;
-  proper = (proper, tt);
-  low = room .low;
+  proper = (ends .proper, tt);
 }
 
 -- Behind a part there is room for one record more.
@@ -70,48 +68,51 @@ pub behind-room : {s table : List ℕ} {at top : ℕ} → Behind s table at top 
 behind-room b = record { low = omega (arith, b .room, b .short); words = omega (arith, b .room, b .words) }
 
 -- ---- an assertion, and a byte set
-pub assert-putting : {table : List ℕ} {top : ℕ} (a : ℕ) → Room table top → Putting table top 3 a 0 (replicate 8 0)
+pub assert-putting : {table : List ℕ} {top : ℕ} (a : ℕ) → Room table top → a ≤ lastAssertion
+    → Putting table top assertionKind a 0 noSet
 unfolding inner
-assert-putting a room = putting (assert a) (row-none room) tt refl room
+assert-putting a room h = putting (assert a) (series-none room) h refl room
 
-pub assert-meets : {table table′ : List ℕ} {top a : ℕ} (at g : ℕ) → Room table top → Puts table table′ top 3 a 0 (replicate 8 0)
-    → Meets (part (assert a) at g) (GotPart at (top + 1) g) (take (recordWords * top) table) table′
+pub assert-meets : {table table′ : List ℕ} {top a : ℕ} (at g : ℕ) → Room table top → a ≤ lastAssertion
+    → Puts table table′ top assertionKind a 0 noSet → Meets (part (assert a) at g) (GotPart at (top + 1) g) (take (recordWords * top) table) table′
 unfolding inner
-assert-meets {top = top} {a = a} at g room p = record {
-  by = (top + 1, refl, p .by _ (assert a) (made (assert a) (row-none room) tt) refl);
+assert-meets {top = top} {a = a} at g room h p = record {
+  by = (top + 1, refl, p .by _ (assert a) (made (assert a) (series-none room) h) refl);
 }
 
-pub set-putting : {table : List ℕ} {top : ℕ} {set : List ℕ} → Formed set → Room table top → Putting table top 2 0 0 set
+pub set-putting : {table : List ℕ} {top : ℕ} {set : List ℕ} → Formed set → Room table top → Putting table top setKind 0 0 set
 unfolding inner
-set-putting {set = set} formed room = putting (bset set) (row-none room) tt (formed .eight) room
+set-putting {set = set} formed room = putting (bset set) (series-none room) formed (formed .eight) room
 
-pub set-stands : {table table′ : List ℕ} {top : ℕ} {set : List ℕ} → Room table top → Puts table table′ top 2 0 0 set
+pub set-stands : {table table′ : List ℕ} {top : ℕ} {set : List ℕ} → Formed set → Room table top
+    → Puts table table′ top setKind 0 0 set
     → Stands table′ (top + 1) (take (recordWords * top) table ++ records (bset set))
 unfolding inner
-set-stands {set = set} room p = p .by _ (bset set) (made (bset set) (row-none room) tt) refl
+set-stands {set = set} formed room p = p .by _ (bset set) (made (bset set) (series-none room) formed) refl
 
 -- ---- a group
-pub group-putting : {table : List ℕ} {top : ℕ} (k : ℕ) → Room table top → SomePart table top
-    → Putting table top 4 k 1 (replicate 8 0)
+pub group-putting : {table : List ℕ} {top : ℕ} (k : ℕ) → (k ≡ 0 → ⊥) → Room table top → SomePart table top
+    → Putting table top groupKind k 1 noSet
 unfolding inner
-group-putting k room s = putting {before = s .before} (group k (s .node)) (row-one room (s .proper) (s .stands)) tt refl room
+group-putting k h room s =
+    putting {before = s .before} (group k (s .part)) (series-one (s .ends)) (omega arith, s .ends .proper) refl room
 
 as-group : (k : ℕ) (r : Node) → (k ≡ 0 → ⊥) → grouped k r ≡ group k r
 as-group zero r h = absurd (h refl)
 as-group (suc k) r h = refl
 
 pub group-groups : {table table′ : List ℕ} {top k : ℕ} → (k ≡ 0 → ⊥) → Room table top
-    → Puts table table′ top 4 k 1 (replicate 8 0)
+    → Puts table table′ top groupKind k 1 noSet
     → Groups k top (top + 1) table table′
 unfolding inner
 group-groups {k = k} h room p = record {
-  by = λ before r proper stands.
-      rw (as-group k r h) (p .by before (group k r) (made (group k r) (row-one room proper stands) tt) refl);
+  by = λ before r ends.
+      rw (as-group k r h) (p .by before (group k r) (made (group k r) (series-one ends) (omega arith, ends .proper)) refl);
   next = omega arith;
 }
 
 pub no-group : {table : List ℕ} {top k : ℕ} → k ≡ 0 → Groups k top top table table
-no-group e = record { by = λ before r proper stands. rw e stands; next = omega arith }
+no-group e = record { by = λ before r ends. rw e (ends .stands); next = omega arith }
 
 -- ---- a quantifier
 abbrev extraOf : ℕ → ℕ → Option ℕ
@@ -129,21 +130,16 @@ maximum-is min max h = go (eqb max noMaximum) refl
     go true e = sym (eqb-true max noMaximum e)
     go false e = omega arith
 
-limited-is : (min : ℕ) (e : Option ℕ) (lazy : Bool) (r : Node) → min ≤ countLimit → Rattle.reading_atoms.specs.BraceLaws.Limited min e
-    → Limited (many min e lazy r)
-limited-is min none lazy r h k = h
-limited-is min (some e) lazy r h k = k
-
 module _ (s : List ℕ) (at : ℕ) {q : Quantifier} (is : QuantifierIs q (quantifierAt s at)) where
   pub once-quantifies : {g top : ℕ} {table : List ℕ} → q ≡ Once → Quantifies s at g top table table (GotPart at top g)
   once-quantifies {top = top} e = record {
-    by = λ before r proper stands. rw (sym (is .same), e) (record { by = (top, refl, stands) });
+    by = λ before r ends. rw (sym (is .same), e) (record { by = (top, refl, ends .stands) });
   }
 
   pub refused-quantifies : {g top number place : ℕ} {table : List ℕ} → q ≡ Miscounted number place
       → Quantifies s at g top table table (GotRefused number place)
   refused-quantifies e = record {
-    by = λ before r proper stands.
+    by = λ before r ends.
         let x = sym (is .same) ∙ ap quantifierOf e in rw x (record { by = (refl, miscounted-late s at x) });
   }
 
@@ -154,31 +150,31 @@ module _ (s : List ℕ) (at : ℕ) {q : Quantifier} (is : QuantifierIs q (quanti
     ordered : min ≤ max
     ordered = rw e at (is .ordered)
 
-    within : (r : Node) → Limited (many min (extraOf min max) lazy r)
-    within r = let h = quantifier-repeated s at is-repeated in limited-is min (extraOf min max) lazy r (h .2) (h .3)
+    within : Within min (extraOf min max)
+    within = quantifier-repeated s at is-repeated .2
 
     pub many-putting : {table : List ℕ} {top : ℕ} → Room table top → SomePart table top
-        → Putting table top 7 0 1 (min ∷ max ∷ boolByte lazy ∷ replicate 5 0)
+        → Putting table top quantifierKind 0 1 (min ∷ max ∷ boolByte lazy ∷ replicate 5 0)
     unfolding inner
     many-putting room p =
         rw (maximum-is min max ordered, ← bool-bit lazy) at
-        (putting {before = p .before} (many min (extraOf min max) lazy (p .node)) (row-one room (p .proper) (p .stands))
-        (within (p .node)) refl room)
+        (putting {before = p .before} (many min (extraOf min max) lazy (p .part)) (series-one (p .ends))
+        (within, p .ends .proper) refl room)
 
     pub many-quantifies : {g top : ℕ} {table table′ : List ℕ} → Room table top
-        → Puts table table′ top 7 0 1 (min ∷ max ∷ boolByte lazy ∷ replicate 5 0)
+        → Puts table table′ top quantifierKind 0 1 (min ∷ max ∷ boolByte lazy ∷ replicate 5 0)
         → Quantifies s at g top table table′ (GotPart end (top + 1) g)
     unfolding inner
     many-quantifies {top = top} {table = table} {table′ = table′} room puts = record {
-      by = λ before r proper stands.
-          let p : Puts table table′ top 7 0 1 (lastOf (many min (extraOf min max) lazy r))
+      by = λ before r ends.
+          let p : Puts table table′ top quantifierKind 0 1 (lastOf (many min (extraOf min max) lazy r))
           = rw (maximum-is min max ordered, ← bool-bit lazy) puts in
           rw is-repeated (record {
             by = (
               top + 1,
               refl,
               p .by before (many min (extraOf min max) lazy r)
-                  (made (many min (extraOf min max) lazy r) (row-one room proper stands) (within r)) refl,
+                  (made (many min (extraOf min max) lazy r) (series-one ends) (within, ends .proper)) refl,
             );
           });
     }

@@ -12,7 +12,7 @@ use Rattle.sets.specs.Laws.{setOf-holds}
 use Rattle.meaning.specs.Limits.{patternLimit, tableWords, groupLimit}
 use Rattle.meaning.specs.Node.{Node.bset, Node.assert}
 use Rattle.table.specs.Table.{recordWords}
-use Rattle.table.specs.Stands.{Stands}
+use Rattle.table.specs.Stands.{Stands, SomePart}
 use Rattle.reading_atoms.specs.Chars.{byteAt, noByte, openParen, closeParen, openBracket, closeBracket, openBrace, closeBrace}
 use Rattle.reading_atoms.specs.Chars.{backslash, dot, caret, dollar, star, plus, question, bar, endsSequence, isQuantifier}
 use Rattle.reading_atoms.specs.Places.{byte-there, byte-within}
@@ -26,7 +26,7 @@ use Rattle.reading_items.specs.Reading.{Part, Part.part, Part.turned, Op
 use Rattle.reading_items.specs.Reading.{dotSet}
 use Rattle.reading_items.specs.Reading.{itemBy, itemAt}
 use Rattle.reading_items.specs.Numbers.{wrong-late, broken-late}
-use Rattle.reading_items.specs.Meets.{Fine, Behind, Room, SomePart, Meets, MeetsBy, Quantifies}
+use Rattle.reading_items.specs.Meets.{Fine, Behind, Room, Meets, MeetsBy, Quantifies}
 use Rattle.reading_items.specs.declared.parts.Got.{Got}
 use Rattle.reading_items.specs.declared.parts.Got.the-variants.{Part as GotPart, Refused as GotRefused}
 

@@ -13,12 +13,13 @@ use borrow.Author.Tests.{eqb-true, eqb-false, leb-false, ltb-false, eq-eqb}
 use Rattle.sets.specs.Sets.{Formed, setOf, isDot, inEscape}
 use Rattle.sets.specs.Laws.{setOf-holds}
 use Rattle.meaning.specs.Tests.{by-test}
-use Rattle.meaning.specs.Limits.{countLimit, depthLimit, groupLimit, patternLimit}
-use Rattle.meaning.specs.Node.{Node, Node.empty, Node.bset, Node.assert, Node.group, Node.seq, Node.alt, Node.many, Proper}
+use Rattle.meaning.specs.Limits.{depthLimit, groupLimit, patternLimit, lastAssertion}
+use Rattle.meaning.specs.Node.{Node, Node.empty, Node.bset, Node.assert, Node.group, Node.seq, Node.alt, Node.many, Within, Proper}
 use Rattle.meaning.specs.Flat.{Kind, Kind.sequence, Kind.alternation, pair, Flat, parts, join, join-parts}
 use Rattle.meaning.specs.Numbering.{Numbers}
 use Rattle.table.specs.Table.{recordsIn, recordCount}
-use Rattle.table.specs.Laws.{Each, each-append, countAll, count-append}
+use Rattle.meaning.specs.All.{All, all-append}
+use Rattle.table.specs.Laws.{countAll, count-append}
 use Rattle.reading_atoms.specs.Chars.{noByte, byteAt, choose, openParen, openBracket, backslash, endsSequence, bar, closeParen}
 use Rattle.reading_atoms.specs.Escapes.{Escape, Escape.byte, Escape.named, Escape.assertion, Escape.wrong, escapeAt}
 use Rattle.reading_atoms.specs.Classes.{Class, Class.holds, Class.broken, takes, classAt}
@@ -33,18 +34,13 @@ use Rattle.reading_items.specs.Reading.{closed}
 use Rattle.reading_items.specs.Reading.{opened}
 use Rattle.reading_items.specs.Reading.{itemBy, sequenceGo, alternativesGo, alternativesBy, itemAt, alternativesAt}
 
--- A quantifier's counts are within the limit.
-abbrev pub Within : ℕ → Option ℕ → Type 0
-Within min none = min ≤ countLimit
-Within min (some extra) = min + extra ≤ countLimit
-
--- Sets are well-formed, assertions are listed, counts are within the limit, and groups nest no deeper than d.
+-- A proper pattern whose groups nest no deeper than d.
 abbrev pub Fair : Node → ℕ → Type 0
 Fair empty d = Unit {0}
 Fair (bset s) d = Formed s
-Fair (assert a) d = a ≤ 3
+Fair (assert a) d = a ≤ lastAssertion
 Fair (group k r) zero = ⊥
-Fair (group k r) (suc d) = Fair r d
+Fair (group k r) (suc d) = (1 ≤ k) × Fair r d
 Fair (seq r q) d = Fair r d × Fair q d
 Fair (alt r q) d = Fair r d × Fair q d
 Fair (many n e lazy r) d = Within n e × Fair r d
@@ -54,7 +50,7 @@ fair-more empty d h = tt
 fair-more (bset s) d h = h
 fair-more (assert a) d h = h
 fair-more (group k r) zero h = absurd h
-fair-more (group k r) (suc d) h = fair-more r d h
+fair-more (group k r) (suc d) h = (h .0, fair-more r d (h .1))
 fair-more (seq r q) d h = (fair-more r d (h .0), fair-more q d (h .1))
 fair-more (alt r q) d h = (fair-more r d (h .0), fair-more q d (h .1))
 fair-more (many n e lazy r) d h = (h .0, fair-more r d (h .1))
@@ -64,10 +60,10 @@ fair-proper empty d h = tt
 fair-proper (bset s) d h = h
 fair-proper (assert a) d h = h
 fair-proper (group k r) zero h = absurd h
-fair-proper (group k r) (suc d) h = fair-proper r d h
+fair-proper (group k r) (suc d) h = (h .0, fair-proper r d (h .1))
 fair-proper (seq r q) d h = (fair-proper r d (h .0), fair-proper q d (h .1))
 fair-proper (alt r q) d h = (fair-proper r d (h .0), fair-proper q d (h .1))
-fair-proper (many n e lazy r) d h = fair-proper r d (h .1)
+fair-proper (many n e lazy r) d h = (h .0, fair-proper r d (h .1))
 
 pub fair-shared : (d : ℕ) → Shared (λ r. Fair r d)
 fair-shared d = record { both = both; each = each; nothing = tt }

@@ -13,10 +13,12 @@ use Rattle.sets.specs.Sets.{Formed, setOf, isDot, inEscape}
 use Rattle.sets.specs.Laws.{setOf-holds}
 use Rattle.meaning.specs.Limits.{countLimit, depthLimit, groupLimit, patternLimit, tableWords}
 use Rattle.meaning.specs.Node.{Node, Node.empty, Node.bset, Node.assert, Node.group, Node.seq, Node.alt, Node.many, Proper}
+use Rattle.meaning.specs.Node.{Within}
 use Rattle.meaning.specs.Flat.{Kind, Kind.sequence, Kind.alternation, Flat, parts, join, join-parts}
 use Rattle.meaning.specs.Numbering.{Numbers}
 use Rattle.table.specs.Table.{recordsIn, recordCount}
-use Rattle.table.specs.Laws.{Each, each-append, countAll, count-append}
+use Rattle.meaning.specs.All.{All, all-append}
+use Rattle.table.specs.Laws.{countAll, count-append}
 use Rattle.reading_atoms.specs.Chars.{noByte, byteAt, choose, caret, dollar, dot, backslash, openParen, closeParen, openBracket}
 use Rattle.reading_atoms.specs.Chars.{closeBracket, closeBrace}
 use Rattle.reading_atoms.specs.Chars.{bar, question, colon, isQuantifier, endsSequence}
@@ -33,7 +35,7 @@ use Rattle.reading_items.specs.Reading.{closed, opened}
 use Rattle.reading_items.specs.Reading.{itemBy, sequenceGo, alternativesGo, alternativesBy, itemAt, sequenceAt}
 use Rattle.reading_items.specs.Reading.{alternativesAt}
 use Rattle.reading_items.specs.Reading.{Reading, Reading.pattern, Reading.refused, whole, firstHigh, reading}
-use Rattle.reading_items.specs.Facts.{Within, Fair, fair-more, fair-shared, Kept, Item, Stretch, Ok, ok-then, ok-choose}
+use Rattle.reading_items.specs.Facts.{Fair, fair-more, fair-shared, Kept, Item, Stretch, Ok, ok-then, ok-choose}
 use Rattle.reading_items.specs.Facts.{byte-within}
 
 -- What the readers of atoms keep.
@@ -131,8 +133,8 @@ module _ (s : List ℕ) (laws : AtomLaws s) where
   -- The parts of a row so far: they may stand in a row of its kind, and their groups are numbered from its beginning on.
   record Gathered (k : Kind) (d g0 : ℕ) (l : List Node) (at g : ℕ) : Type 0 where
     within : at ≤ length s
-    fit : Each (Fits k) l
-    fair : Each (λ r. Fair r d) l
+    fit : All (Fits k) l
+    fair : All (λ r. Fair r d) l
     numbers : NumbersIn (suc g0) l (suc g)
     fewGroups : g ≤ groupLimit
 
@@ -144,8 +146,8 @@ module _ (s : List ℕ) (laws : AtomLaws s) where
       → Gathered k d g0 (l ++ parts k r) at′ g′
   gathered-more k d g0 l at g r at′ g′ h i = record {
     within = i .within;
-    fit = each-append (Fits k) l (parts k r) (h .fit) (flat-parts k r (i .flat));
-    fair = each-append (λ q. Fair q d) l (parts k r) (h .fair) (shared-parts (λ q. Fair q d) (fair-shared d) k r (i .fair));
+    fit = all-append (Fits k) l (parts k r) (h .fit) (flat-parts k r (i .flat));
+    fair = all-append (λ q. Fair q d) l (parts k r) (h .fair) (shared-parts (λ q. Fair q d) (fair-shared d) k r (i .fair));
     numbers = numbers-append l (parts k r) (suc g0) (suc g) (suc g′) (h .numbers)
         (numbers-parts k r (suc g) (suc g′) (i .numbers));
     fewGroups = i .fewGroups;
@@ -291,7 +293,8 @@ module _ (s : List ℕ) (laws : AtomLaws s) where
       (ok (at + 1) (g + 1) (omega arith) (omega (arith, leb-false groupLimit g t)))
       (λ r end g′ i.
       let next : g + 1 ≡ suc g = omega arith in
-      closed-item (suc d) at end g g′ (group (g + 1) r) (i .kept .flat) (next, rw next at (i .kept .numbers)) (i .kept .fair)
+      closed-item (suc d) at end g g′ (group (g + 1) r) (i .kept .flat) (next, rw next at (i .kept .numbers))
+      (omega arith, i .kept .fair)
       (i .kept .fewGroups) (group-few r at end g (i .few)) (omega (arith, i .on))))
   opened-item d inside ok at g few h plain e =
       ok-then (Stretch s d (at + 3) g) (Item s (suc d) at g) (inside (at + 3) g) _ (ok (at + 3) g (plain-within at e) few)

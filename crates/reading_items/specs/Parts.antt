@@ -8,7 +8,8 @@ use Rattle.meaning.specs.Node.{Node, Node.empty, Node.bset, Node.assert, Node.g
 use Rattle.meaning.specs.Flat.{Kind, Kind.sequence, Kind.alternation, pair, Not, Flat, parts, link, join, by-parts}
 use Rattle.meaning.specs.Numbering.{Numbers}
 use Rattle.table.specs.Table.{unless, recordsIn, recordCount}
-use Rattle.table.specs.Laws.{Each, each-append, countAll, row-count}
+use Rattle.meaning.specs.All.{All, all-append}
+use Rattle.table.specs.Laws.{countAll, row-count}
 
 -- The groups of a list of parts are numbered from left to right, from a up to b.
 abbrev pub NumbersIn : ℕ → List Node → ℕ → Type 0
@@ -47,16 +48,16 @@ pub record Shared (P : Node → Type 0) : Type 0 where
   pub nothing : P empty
 
 module _ (P : Node → Type 0) (shared : Shared P) where
-  shared-link : (k : Kind) (r : Node) (l : List Node) → P r → Each P l → P (link k r l)
+  shared-link : (k : Kind) (r : Node) (l : List Node) → P r → All P l → P (link k r l)
   shared-link k r [] h g = h
   shared-link k r (q ∷ l) h g = shared .both k r (link k q l) h (shared-link k q l (g .0) (g .1))
 
-  pub shared-join : (k : Kind) (l : List Node) → Each P l → P (join k l)
+  pub shared-join : (k : Kind) (l : List Node) → All P l → P (join k l)
   shared-join k [] h = shared .nothing
   shared-join k (r ∷ l) h = shared-link k r l (h .0) (h .1)
 
-  pub shared-parts : (k : Kind) (r : Node) → P r → Each P (parts k r)
-  shared-parts k r = by-parts k (λ r l. P r → Each P l) (λ r n h. (h, tt))
+  pub shared-parts : (k : Kind) (r : Node) → P r → All P (parts k r)
+  shared-parts k r = by-parts k (λ r l. P r → All P l) (λ r n h. (h, tt))
       (λ r q l f h. let (u, v) = shared .each k r q h in (u, f v)) r
 
 -- A part that may stand in a row of a kind: not of that kind, and flat.
@@ -71,16 +72,16 @@ flat-unpair : (k : Kind) (r q : Node) → Flat (pair k r q) → Fits k r × Flat
 flat-unpair sequence r q h = ((h .0, h .1), h .2)
 flat-unpair alternation r q h = ((h .0, h .1), h .2)
 
-flat-link : (k : Kind) (r : Node) (l : List Node) → Fits k r → Each (Fits k) l → Flat (link k r l)
+flat-link : (k : Kind) (r : Node) (l : List Node) → Fits k r → All (Fits k) l → Flat (link k r l)
 flat-link k r [] h g = h .1
 flat-link k r (q ∷ l) h g = flat-pair k r (link k q l) h (flat-link k q l (g .0) (g .1))
 
-pub flat-join : (k : Kind) (l : List Node) → Each (Fits k) l → Flat (join k l)
+pub flat-join : (k : Kind) (l : List Node) → All (Fits k) l → Flat (join k l)
 flat-join k [] h = tt
 flat-join k (r ∷ l) h = flat-link k r l (h .0) (h .1)
 
-pub flat-parts : (k : Kind) (r : Node) → Flat r → Each (Fits k) (parts k r)
-flat-parts k r = by-parts k (λ r l. Flat r → Each (Fits k) l) (λ r n h. ((n, h), tt))
+pub flat-parts : (k : Kind) (r : Node) → Flat r → All (Fits k) (parts k r)
+flat-parts k r = by-parts k (λ r l. Flat r → All (Fits k) l) (λ r n h. ((n, h), tt))
     (λ r q l f h. let (u, v) = flat-unpair k r q h in (u, f v)) r
 
 count-inner : (k : Kind) (r : Node) → recordsIn (some k) r ≤ recordCount r

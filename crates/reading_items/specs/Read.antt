@@ -1,15 +1,11 @@
 -- Whatever is read, of any bytes: flat, with groups numbered in order, and within the limits.
 use mathlib.Core.Path.{_≡_}
 use mathlib.Core.Bool.{false}
-use mathlib.Core.Option.{Option, none, some}
 use mathlib.Core.List.{List}
-use Prim.Native.Nat.{ℕ, _≤_}
+use Prim.Native.Nat.{ℕ}
 use Rattle.meaning.specs.Bytes.{Bytes}
-use Rattle.meaning.specs.Limits.{countLimit}
 use Rattle.meaning.specs.Node.{Node}
 use Rattle.reading_atoms.specs.Laws.{escape-byte, escape-named, escape-assertion, class-holds, quantifier-repeated}
-use Rattle.reading_atoms.specs.BraceLaws.{Limited}
-use Rattle.reading_items.specs.Facts.{Within}
 use Rattle.reading_items.specs.Kept.{AtomLaws, Read, reading-keeps}
 use Rattle.reading_items.specs.Reading.{Reading.pattern, reading}
 
@@ -20,12 +16,8 @@ atom-laws {s} bytes = record {
   escape-named = λ at k h q. escape-named false s at bytes q .1;
   escape-assertion = λ at a h q. escape-assertion false s at bytes q;
   class-set = λ at set e h q. class-holds s at bytes q;
-  quantifier = λ at min extra lazy e h q. let f = quantifier-repeated s at q in (f .0, f .1, within min extra (f .2) (f .3));
+  quantifier = λ at min extra lazy e h q. quantifier-repeated s at q;
 }
-  where
-    within : (min : ℕ) (extra : Option ℕ) → min ≤ countLimit → Limited min extra → Within min extra
-    within min none h k = h
-    within min (some e) h k = k
 
 -- Whatever the table's size, what is read is so.
 pub what-is-read : {s : List ℕ} (bytes : Bytes s) (table : ℕ) (r : Node) (g : ℕ) → reading s table ≡ pattern r g

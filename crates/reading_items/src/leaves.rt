@@ -15,9 +15,10 @@ use table::BYTE_SET;
 use table::put;
 ghost use mathlib.Core.Path.{_≡_};
 ghost use mathlib.Core.Bool.{false};
-ghost use Prim.Native.Nat.{_*_, _<_};
+ghost use Prim.Native.Nat.{_*_, _<_, _≤_};
 ghost use lib.ListN.{length, take};
 ghost use Rattle.sets.specs.Sets.{Formed};
+ghost use Rattle.meaning.specs.Limits.{lastAssertion};
 ghost use Rattle.meaning.specs.Node.{Node.assert};
 ghost use Rattle.table.specs.Table.{recordWords};
 ghost use Rattle.reading_atoms.specs.Chars.{byteAt, openParen, endsSequence};
@@ -37,7 +38,7 @@ fn set_item(s: &[u8], at: usize, groups: u32, table: &mut [u32], top: usize, set
 
 // An assertion, which is never directly quantified.
 fn assertion(at: usize, groups: u32, table: &mut [u32], top: usize, number: u32) -> Got
-    requires { ⌜ Room (now table) top ⌝ }
+    requires { ⌜ Room (now table) top × (number ≤ lastAssertion) ⌝ }
     ensures { λ r. ⌜ Leaves (part (assert number) at groups) r top (now (table .entry)) (now (table .exit)) ⌝ }
 {
     put(table, top, ASSERTION, number, 0, [0u32; 8]);

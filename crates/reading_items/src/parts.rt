@@ -8,7 +8,8 @@ use table::QUANTIFIER;
 use table::put;
 ghost use mathlib.Core.Path.{_≡_};
 ghost use Prim.Native.Nat.{_*_, _≤_};
-ghost use Rattle.reading_items.specs.Meets.{Behind, Room, SomePart, Quantifies, Closes, Groups};
+ghost use Rattle.table.specs.Stands.{SomePart};
+ghost use Rattle.reading_items.specs.Meets.{Behind, Room, Quantifies, Closes, Groups};
 
 // A part was read: the place behind it, the top of the table above its records, and the groups so far; or a refusal.
 pub enum Got {

@@ -1,31 +1,34 @@
-// Parts in a row, the items of a sequence or the alternatives of an alternation: flat, and one of a single part is that part.
+// Parts in a series, the items of a sequence or the alternatives of an alternation: flat, and one of a single part is that part.
 use table::EMPTY;
+use table::ITEMS;
+use table::KIND;
 use table::put;
 use table::word;
 ghost use mathlib.Core.Path.{_≡_};
-ghost use Rattle.reading_items.specs.Meets.{SomePart, SomeGathered, Joins, Splices};
+ghost use Rattle.table.specs.Stands.{SomePart};
+ghost use Rattle.reading_items.specs.Meets.{SomeGathered, Joins, Splices};
 
-// The top and the number of the parts that a part gives to a row.
+// The top and the number of the parts that a part gives to a series.
 pub struct Spliced {
     pub top: usize,
     pub items: u32,
 }
 
-// A part that is itself a row of the kind gives its own parts, without the record that closed them; any other gives itself.
+// A part that is itself a series of the kind gives its own parts, without the record that closed them; any other gives itself.
 pub fn splice(table: &[u32], top: usize, kind: u32) -> Spliced
     requires { ⌜ SomePart (now table) top ⌝ }
     ensures { λ r. ⌜ Splices (now (table .entry)) top kind r ⌝ }
 {
-    if word(table, top, 0) == kind {
+    if word(table, top, KIND) == kind {
         return Spliced {
             top: top - 1,
-            items: word(table, top, 3),
+            items: word(table, top, ITEMS),
         };
     }
     Spliced { top, items: 1 }
 }
 
-// The record that joins the parts of a row: an empty part's for none, and for one none.
+// The record that joins the parts of a series: an empty part's for none, and for one none.
 pub fn joined(table: &mut [u32], top: usize, kind: u32, count: u32) -> usize
     requires { ⌜ SomeGathered (now table) top kind count ⌝ }
     ensures { λ r. ⌜ Joins (now (table .entry)) (now (table .exit)) top kind count r ⌝ }

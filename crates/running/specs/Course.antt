@@ -10,7 +10,7 @@ use lib.ListN.{length, getD, replicate}
 use Rattle.meaning.specs.Limits.{positionLimit}
 use Rattle.meaning.specs.Text.{Regs, unset, registersOf}
 use Rattle.meaning.specs.Bytes.{textOf}
-use Rattle.meaning.specs.Reach.{All}
+use Rattle.meaning.specs.All.{All}
 use Rattle.machine.specs.Rows.{Program, rowCount, Key, at}
 use Rattle.machine.specs.Steps.{Thread, thread, Machine, Machine.machine, step, steps, begun, Done, best}
 use Rattle.machine.specs.Steps.{count, enough, firstThread, run}

@@ -5,8 +5,8 @@ use mathlib.Core.List.{List, [], _∷_}
 use Prim.Native.Nat.{ℕ, zero, suc, _+_, _*_, _/_, _%_, _^_, _≤_, _<_}
 use native.Mathlib.Nat.{not-suc-le-zero, le-of-suc-le-suc}
 use native.Mathlib.Omega.{arith}
-use lib.ListN.{length, getD, set, length-set, List·getD-eq-default}
-use lib.Seq.{ext-getD, getD-set-same, getD-set-other}
+use lib.ListN.{length, getD, take, drop, set, length-set, length-drop, List·getD-eq-default}
+use lib.Seq.{ext-getD, getD-set-same, getD-set-other, getD-take, getD-drop, length-take-le}
 use lib.Dec.{eqb, ltb}
 use mir.Syntax.{w32}
 use mir.Val.{Fits}
@@ -136,3 +136,12 @@ same-differ a b fa fb h = go (sameBytes a b) refl
     go : (p : Bool) → sameBytes a b ≡ p → p ≡ false
     go true e = absurd (h (same-words a b fa fb e))
     go false e = refl
+
+-- Eight words that are those of a list from a place on.
+pub eight-words : (list : List ℕ) (at : ℕ) {set : List ℕ} {n : ℕ} → Words (λ j. getD list (at + j) 0) set n → 8 ≤ n
+    → at + 8 ≤ length list → set ≡ take 8 (drop at list)
+eight-words list at {set} w h room =
+    let long : length (take 8 (drop at list)) ≡ 8 = length-take-le 8 (drop at list) (simp length-drop (omega arith)) in
+    ext-getD 0 set (take 8 (drop at list)) (w .eight ∙ sym long)
+    (λ i l. w .at i (omega (arith, w .eight))
+    ∙ sym (getD-take 8 (drop at list) i 0 (omega (arith, w .eight)) ∙ getD-drop at list i 0))

@@ -15,12 +15,13 @@ use Rattle.meaning.specs.Node.{hi}
 use Rattle.meaning.specs.Results.{concatMap}
 use Rattle.machine.specs.Layout.{sizeOf}
 use Rattle.meaning.specs.Limits.{noMaximum}
-use Rattle.table.specs.Table.{recordWords, sizeCap, recordsIn, recordCount, recordOf, ownRecord, records}
-use Rattle.table.specs.Laws.{Each, inner, kindOf, operandOf, lastOf, own, countAll, inner-words}
+use Rattle.table.specs.Table.{recordWords, sizeCap, quantifierKind, recordsIn, recordCount, recordOf, ownRecord, records}
+use Rattle.meaning.specs.All.{All}
+use Rattle.table.specs.Laws.{inner, kindOf, operandOf, lastOf, own, countAll, inner-words}
 use Rattle.table.specs.Derived.{recordLimit, derivedOf, leafOf, alongFrom, alongOf, closedSize, closedOf, closed, make}
-use Rattle.table.specs.Derived.{make-same, along-count, Limited}
-use Rattle.table.specs.Stands.{Stands, Row, Made, Along, Derives, SomeMade, SomeRow, Closing, Puts}
-use Rattle.table.specs.Roots.{fewer, row-few}
+use Rattle.table.specs.Derived.{make-same, along-count}
+use Rattle.table.specs.Stands.{Stands, Series, Made, Along, Derives, SomeMade, SomeSeries, Closing, Puts}
+use Rattle.table.specs.Roots.{fewer, series-few}
 use Rattle.table.specs.declared.Derived.{Derived}
 
 -- A pattern of one of the first three kinds has no parts inside it, and any other has one or more.
@@ -45,16 +46,16 @@ some-inner (alt r q) h = omega arith
 some-inner (many n e lazy r) h = omega arith
 
 -- A quantifier's counts are words within the limit.
-counts-fit : (r : Node) → Limited r → kindOf r ≡ 7
+counts-fit : (r : Node) → Proper r → kindOf r ≡ quantifierKind
     → (getD (lastOf r) 0 0 ≤ getD (lastOf r) 1 0) × (getD (lastOf r) 1 0 ≤ noMaximum)
-counts-fit empty m e = absurd (omega arith)
-counts-fit (bset s) m e = absurd (omega arith)
-counts-fit (assert a) m e = absurd (omega arith)
-counts-fit (group k r) m e = absurd (omega arith)
-counts-fit (seq r q) m e = absurd (omega arith)
-counts-fit (alt r q) m e = absurd (omega arith)
-counts-fit (many n none lazy r) m e = omega arith
-counts-fit (many n (some x) lazy r) m e = omega arith
+counts-fit empty p e = absurd (omega arith)
+counts-fit (bset s) p e = absurd (omega arith)
+counts-fit (assert a) p e = absurd (omega arith)
+counts-fit (group k r) p e = absurd (omega arith)
+counts-fit (seq r q) p e = absurd (omega arith)
+counts-fit (alt r q) p e = absurd (omega arith)
+counts-fit (many n none lazy r) p e = omega (arith, p .0)
+counts-fit (many n (some x) lazy r) p e = omega (arith, p .0)
 
 module _ {table : List ℕ} {top kind operand items least most : ℕ} where
   pub leaf-derives : kind ≤ 3 → Derives (leafOf kind) table top kind operand items least most
@@ -62,19 +63,20 @@ module _ {table : List ℕ} {top kind operand items least most : ℕ} where
     by = λ before r m. ap leafOf (m .same-kind) ∙ leaf-derived r (omega (arith, m .same-kind));
   }
 
-  pub some-row : SomeMade table top kind operand items least most → 3 < kind → SomeRow table top items
-  some-row s h = record {
+  pub some-series : SomeMade table top kind operand items least most → 3 < kind → SomeSeries table top items
+  some-series s h = record {
     before = s .before;
     parts = inner (s .node);
-    row = s .made .row;
-    some = omega (arith, some-inner (s .node) (omega (arith, s .made .same-kind)), s .made .row .counted);
+    series = s .made .series;
+    some = omega (arith, some-inner (s .node) (omega (arith, s .made .same-kind)), s .made .series .counted);
+    low = s .low;
   }
 
   -- The derived words of the parts together, with which the record is closed.
   module _ {d : Derived} (s : SomeMade table top kind operand items least most) (deep : 3 < kind)
       (along : Along d table top items) where
     its : d ≡ alongOf (inner (s .node))
-    its = along .by (s .before) (inner (s .node)) (s .made .row)
+    its = along .by (s .before) (inner (s .node)) (s .made .series)
 
     along-of : (l : List Node) → (alongOf l .records ≤ countAll l + 1) × (alongOf l .size ≤ sizeCap)
     unfolding recordsIn sizeOf
@@ -83,22 +85,22 @@ module _ {table : List ℕ} {top kind operand items least most : ℕ} where
     along-of (r ∷ q ∷ l) = omega (arith, along-count r (q ∷ l))
 
     pub records-fit : d .records ≤ top + 1
-    records-fit = rw its (omega (arith, along-of (inner (s .node)), row-few (s .made .row)))
+    records-fit = rw its (omega (arith, along-of (inner (s .node)), series-few (s .made .series)))
 
     pub closing : Closing kind items least most (d .size)
     closing = record {
-      some = some-row s deep .some;
-      few = omega (arith, s .made .row .counted, fewer (inner (s .node)), row-few (s .made .row), s .made .row .low);
+      some = some-series s deep .some;
+      few = omega (arith, s .made .series .counted, fewer (inner (s .node)), series-few (s .made .series), s .low);
       small = rw its (along-of (inner (s .node)) .1);
       counts = λ e. rw (s .made .same-least, s .made .same-most)
-          (counts-fit (s .node) (s .made .limited) (sym (s .made .same-kind) ∙ e));
+          (counts-fit (s .node) (s .made .proper) (sym (s .made .same-kind) ∙ e));
     }
 
   closed-made : {before : List ℕ} {r : Node} → 3 < kind → Made table top kind operand items least most before r
       → closedOf kind operand items least most (alongOf (inner r)) ≡ derivedOf r
   closed-made {before} {r} h m =
-      rw (m .same-kind, m .same-operand, m .row .counted, m .same-least, m .same-most)
-      (sym (closed r (some-inner r (omega (arith, m .same-kind))) (m .limited)))
+      rw (m .same-kind, m .same-operand, m .series .counted, m .same-least, m .same-most)
+      (sym (closed r (some-inner r (omega (arith, m .same-kind))) (m .proper)))
 
   pub group-derives : {d : Derived} {size high : ℕ} → 3 < kind → Along d table top items → kind ≡ 4
       → size ≡ closedSize kind items least most (d .size) → high ≡ max operand (d .highest)
@@ -106,7 +108,7 @@ module _ {table : List ℕ} {top kind operand items least most : ℕ} where
   group-derives {d} h along e f g = record {
     by = λ before r m.
         make-same refl f (rw (eq-eqb kind 4 e)) (rw (eq-eqb kind 4 e) g)
-        ∙ ap (closedOf kind operand items least most) (along .by before (inner r) (m .row)) ∙ closed-made h m;
+        ∙ ap (closedOf kind operand items least most) (along .by before (inner r) (m .series)) ∙ closed-made h m;
   }
 
   pub other-derives : {d : Derived} {size : ℕ} → 3 < kind → Along d table top items → (kind ≡ 4 → ⊥)
@@ -115,7 +117,7 @@ module _ {table : List ℕ} {top kind operand items least most : ℕ} where
   other-derives {d} h along e f = record {
     by = λ before r m.
         make-same refl f (rw (ne-eqb kind 4 e)) (rw (ne-eqb kind 4 e))
-        ∙ ap (closedOf kind operand items least most) (along .by before (inner r) (m .row)) ∙ closed-made h m;
+        ∙ ap (closedOf kind operand items least most) (along .by before (inner r) (m .series)) ∙ closed-made h m;
   }
 
 -- Eight words, one by one.
@@ -153,11 +155,11 @@ put-on {table} {table′} {last} {top} {kind} {operand} {items} {d} room eight d
       by = λ before r m same.
           let d≡ : d ≡ derivedOf r = derives .by before r m in
           let record≡ : kind ∷ operand ∷ d .records ∷ items ∷ d .size ∷ d .lowest ∷ d .highest ∷ 0 ∷ take 8 last ≡ ownRecord r =
-          words-same (m .same-kind) (m .same-operand) (ap (λ x. x .records) d≡) (m .row .counted) (ap (λ x. x .size) d≡)
+          words-same (m .same-kind) (m .same-operand) (ap (λ x. x .records) d≡) (m .series .counted) (ap (λ x. x .size) d≡)
           (ap (λ x. x .lowest) d≡) (ap (λ x. x .highest) d≡) (take-all 8 last (omega arith) ∙ same) ∙ sym (own r) in
           record {
             below = rw (next, whole) (take-paste table (recordWords * top) words recordWords low long
-                ∙ ap₂ _++_ (m .row .stands .below) record≡ ∙ append-assoc before (concatMap records (inner r)) (ownRecord r)
+                ∙ ap₂ _++_ (m .series .stands .below) record≡ ∙ append-assoc before (concatMap records (inner r)) (ownRecord r)
                 ∙ ap (λ x. before ++ x) (sym (inner-words r)));
             room = rw kept room;
           };

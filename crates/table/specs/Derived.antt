@@ -12,12 +12,13 @@ use native.Mathlib.Omega.{arith}
 use lib.ListN.{length, getD}
 use lib.Dec.{eqb}
 use mathlib.Core.Bool.{cond, true, false}
-use Rattle.meaning.specs.Limits.{countLimit, patternLimit, noMaximum}
+use Rattle.meaning.specs.Limits.{patternLimit, noMaximum}
 use Rattle.meaning.specs.Node.{Node, Node.empty, Node.bset, Node.assert, Node.group, Node.seq, Node.alt, Node.many, lower, lo}
-use Rattle.meaning.specs.Node.{hi}
+use Rattle.meaning.specs.Node.{hi, Within, Proper}
 use Rattle.meaning.specs.Flat.{Kind, Kind.sequence, Kind.alternation, parts, link, join-parts}
 use Rattle.machine.specs.Layout.{sizeOf}
-use Rattle.table.specs.Table.{recordWords, sizeCap, maximum, recordsIn, recordCount}
+use Rattle.table.specs.Table.{recordsWord, sizeWord, lowestWord, highestWord, emptyKind, groupKind, alternationKind}
+use Rattle.table.specs.Table.{quantifierKind, recordWords, sizeCap, maximum, recordsIn, recordCount}
 use Rattle.table.specs.Laws.{inner, row-count, kindOf, operandOf, lastOf, countAll}
 use Rattle.table.specs.declared.Derived.{Derived}
 
@@ -41,16 +42,15 @@ abbrev pub rootOf : List ℕ → ℕ → Derived
 rootOf table top =
     let base : ℕ = recordWords * (top - 1) in
     record {
-      records = getD table (base + 2) 0;
-      size = getD table (base + 4) 0;
-      lowest = getD table
-          (base + 5) 0;
-      highest = getD table (base + 6) 0;
+      records = getD table (base + recordsWord) 0;
+      size = getD table (base + sizeWord) 0;
+      lowest = getD table (base + lowestWord) 0;
+      highest = getD table (base + highestWord) 0;
     }
 
 -- Of a part with no parts inside it, by its kind.
 abbrev pub leafOf : ℕ → Derived
-leafOf kind = make 1 (cond (eqb kind 1) 0 1) 1 0
+leafOf kind = make 1 (cond (eqb kind emptyKind) 0 1) 1 0
 
 -- Of two neighbours together.
 abbrev pub besideOf : Derived → Derived → Derived
@@ -77,34 +77,23 @@ turnsOf size min max = min * (size + 1) + cond (eqb max noMaximum) (size + 4) ((
 -- Of a pattern, by its kind, operand, items and counts, and by the derived words of its parts together.
 abbrev pub closedSize : ℕ → ℕ → ℕ → ℕ → ℕ → ℕ
 closedSize kind items least most size =
-    capped (cond (eqb kind 4) (size + 2)
-    (cond (eqb kind 6) (size + 2 * (items - 1))
-    (cond (eqb kind 7) (turnsOf size least most) size)))
+    capped (cond (eqb kind groupKind) (size + 2)
+    (cond (eqb kind alternationKind) (size + 2 * (items - 1))
+    (cond (eqb kind quantifierKind) (turnsOf size least most) size)))
 
 abbrev pub closedOf : ℕ → ℕ → ℕ → ℕ → ℕ → Derived → Derived
 closedOf kind operand items least most d = record {
   records = d .records + 1;
   size = closedSize kind items least most (d .size);
-  lowest = cond (eqb kind 4) operand (d .lowest);
-  highest = cond (eqb kind 4) (max operand (d .highest)) (d .highest);
+  lowest = cond (eqb kind groupKind) operand (d .lowest);
+  highest = cond (eqb kind groupKind) (max operand (d .highest)) (d .highest);
 }
 
 pub lower-some : (h a b : ℕ) → (h ≡ 0 → ⊥) → a ≡ lower h a b
 lower-some zero a b f = absurd (f refl)
 lower-some (suc h) a b f = refl
 
--- A quantifier's counts are within the limit.
-abbrev pub Limited : Node → Type 0
-Limited empty = Unit {0}
-Limited (bset s) = Unit {0}
-Limited (assert a) = Unit {0}
-Limited (group k r) = Unit {0}
-Limited (seq r q) = Unit {0}
-Limited (alt r q) = Unit {0}
-Limited (many n none lazy r) = n ≤ countLimit
-Limited (many n (some e) lazy r) = n + e ≤ countLimit
-
--- The derived words of parts in a row are those of the pattern that they make, but for an alternation's own rows.
+-- The derived words of parts in a series are those of the pattern that they make, but for an alternation's own rows.
 pub along-count : (r : Node) (l : List Node) → alongFrom r l .records ≡ countAll (r ∷ l)
 along-count r [] = omega arith
 along-count r (q ∷ l) = omega (arith, along-count q l)
@@ -152,7 +141,7 @@ turns-capped n e s = go (decLe s sizeCap)
     go (yes h) = let same : capped s ≡ s = omega arith in rw same
     go (no h) = let same : capped s ≡ sizeCap = omega arith in rw same (turns-above n e s (omega arith))
 
-quantifier-size : (n : ℕ) (e : Option ℕ) (lazy : Bool) (r : Node) → Limited (many n e lazy r)
+quantifier-size : (n : ℕ) (e : Option ℕ) (lazy : Bool) (r : Node) → Within n e
     → capped (sizeOf (many n e lazy r)) ≡ capped (turnsOf (capped (sizeOf r)) n (maximum n e))
 unfolding sizeOf
 quantifier-size n none lazy r h = omega (arith, turns-capped n 1 (sizeOf r))
@@ -164,7 +153,7 @@ pub make-same : {n n′ s s′ l l′ h h′ : ℕ} → n ≡ n′ → s ≡ s�
 make-same a b c d = cc
 
 -- The derived words of a pattern with parts are closed from those of its parts together.
-pub closed : (r : Node) → 0 < length (inner r) → Limited r
+pub closed : (r : Node) → 0 < length (inner r) → Proper r
     → derivedOf r ≡ closedOf (kindOf r) (operandOf r) (length (inner r)) (getD (lastOf r) 0 0) (getD (lastOf r) 1 0)
     (alongOf (inner r))
 unfolding inner lo hi sizeOf parts recordsIn
@@ -182,4 +171,4 @@ closed (alt r q) h m =
     let whole : link alternation r l ≡ alt r q = join-parts alternation (alt r q) in
     make-same (rw (row-count alternation q, along-count r l)) (omega (arith, along-alternatives r l, ap sizeOf whole))
     (sym (along-lowest alternation r l ∙ ap lo whole)) (sym (along-highest alternation r l ∙ ap hi whole))
-closed (many n e lazy r) h m = make-same refl (quantifier-size n e lazy r m) refl refl
+closed (many n e lazy r) h p = make-same refl (quantifier-size n e lazy r (p .0)) refl refl

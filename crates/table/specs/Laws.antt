@@ -7,28 +7,13 @@ use native.Mathlib.Omega.{arith}
 use lib.ListN.{length, length-append, replicate}
 use Rattle.meaning.specs.Limits.{countLimit}
 use Rattle.meaning.specs.Node.{Node, Node.empty, Node.bset, Node.assert, Node.group, Node.seq, Node.alt, Node.many, Proper}
-use Rattle.meaning.specs.Flat.{Kind, Kind.sequence, Kind.alternation, pair, Not, parts, link, join, Flat, by-parts}
+use Rattle.meaning.specs.Flat.{Kind, Kind.sequence, Kind.alternation, pair, Not, parts, link, join, Flat, Part, by-parts}
+use Rattle.meaning.specs.Flat.{parts-link, spreads-parts, spreads-link, flat-spreads, proper-spreads}
+use Rattle.meaning.specs.All.{All, all-imp}
 use Rattle.meaning.specs.Results.{concatMap}
 use Rattle.table.specs.Table.{recordWords, maximum, bitOf, unless, recordsIn, recordCount, recordOf, ownRecord, wordsIn}
 use Rattle.table.specs.Table.{records, emptyKind, setKind, assertionKind, groupKind, sequenceKind, alternationKind}
 use Rattle.table.specs.Table.{quantifierKind}
-
--- What holds of each part of a list.
-abbrev pub Each : (Node → Type 0) → List Node → Type 0
-Each P [] = Unit {0}
-Each P (r ∷ l) = P r × Each P l
-
-pub each-append : (P : Node → Type 0) (l m : List Node) → Each P l → Each P m → Each P (l ++ m)
-each-append P [] m a b = b
-each-append P (r ∷ l) m a b = (a .0, each-append P l m (a .1) b)
-
-pub each-left : (P : Node → Type 0) (l m : List Node) → Each P (l ++ m) → Each P l
-each-left P [] m a = tt
-each-left P (r ∷ l) m a = (a .0, each-left P l m (a .1))
-
-pub each-right : (P : Node → Type 0) (l m : List Node) → Each P (l ++ m) → Each P m
-each-right P [] m a = a
-each-right P (r ∷ l) m a = each-right P l m (a .1)
 
 -- The parts that a pattern's own record closes.
 unfoldable pub inner : Node → List Node
@@ -157,22 +142,18 @@ inner-count (alt r q) = rw (row-count alternation q)
 inner-count (many n e lazy r) = omega arith
 
 -- The parts of a proper pattern are proper.
-pub parts-proper : (k : Kind) (r : Node) → Proper r → Each Proper (parts k r)
-parts-proper k = by-parts k (λ r l. Proper r → Each Proper l) (λ r h p. (p, tt)) (more k)
-  where
-    more : (k : Kind) (r q : Node) (l : List Node) → (Proper q → Each Proper l) → Proper (pair k r q) → Each Proper (r ∷ l)
-    more sequence r q l f p = (p .0, f (p .1))
-    more alternation r q l f p = (p .0, f (p .1))
+pub parts-proper : (k : Kind) (r : Node) → Proper r → All Proper (parts k r)
+parts-proper k = spreads-parts (proper-spreads k)
 
-pub inner-proper : (r : Node) → Proper r → Each Proper (inner r)
+pub inner-proper : (r : Node) → Proper r → All Proper (inner r)
 unfolding inner
 inner-proper empty p = tt
 inner-proper (bset s) p = tt
 inner-proper (assert a) p = tt
-inner-proper (group k r) p = (p, tt)
+inner-proper (group k r) p = (p .1, tt)
 inner-proper (seq r q) p = (p .0, parts-proper sequence q (p .1))
 inner-proper (alt r q) p = (p .0, parts-proper alternation q (p .1))
-inner-proper (many n e lazy r) p = (p, tt)
+inner-proper (many n e lazy r) p = (p .1, tt)
 
 -- A proper pattern has 16 words for each record.
 pub last-eight : (r : Node) → Proper r → length (lastOf r) ≡ 8
@@ -200,13 +181,8 @@ unfolding wordsIn recordsIn
 long-in t empty p = own-long empty p
 long-in t (bset s) p = own-long (bset s) p
 long-in t (assert a) p = own-long (assert a) p
-long-in t (group k r) p = omega (
-  arith,
-  length-append (records r) (ownRecord (group k r)),
-  long-in none r p,
-  own-long
-      (group k r) p,
-)
+long-in t (group k r) p =
+    omega (arith, length-append (records r) (ownRecord (group k r)), long-in none r (p .1), own-long (group k r) p)
 long-in t (seq r q) p = omega (
   arith,
   length-append (records r ++ wordsIn (some sequence) q) (unless t sequence [] (ownRecord (seq r q))),
@@ -224,48 +200,24 @@ long-in t (alt r q) p = omega (
   unless-long t alternation (alt r q) p,
 )
 long-in t (many n e lazy r) p =
-    omega (arith, length-append (records r) (ownRecord (many n e lazy r)), long-in none r p, own-long (many n e lazy r) p)
+    omega (arith, length-append (records r) (ownRecord (many n e lazy r)), long-in none r (p .1), own-long (many n e lazy r) p)
 
 pub long : (r : Node) → Proper r → length (records r) ≡ recordWords * recordCount r
 long r p = long-in none r p
 
-pub long-all : (l : List Node) → Each Proper l → length (concatMap records l) ≡ recordWords * countAll l
+pub long-all : (l : List Node) → All Proper l → length (concatMap records l) ≡ recordWords * countAll l
 long-all [] p = refl
 long-all (r ∷ l) p = omega (arith, length-append (records r) (concatMap records l), long r (p .0), long-all l (p .1))
 
--- Parts that are not of a kind are the parts of what they make, and those of a flat pattern are not of the kind.
-pub parts-alone : (k : Kind) (r : Node) → Not k r → parts k r ≡ r ∷ []
-unfolding parts
-parts-alone k empty h = refl
-parts-alone k (bset s) h = refl
-parts-alone k (assert a) h = refl
-parts-alone k (group n r) h = refl
-parts-alone sequence (seq r q) h = absurd h
-parts-alone alternation (seq r q) h = refl
-parts-alone sequence (alt r q) h = refl
-parts-alone alternation (alt r q) h = absurd h
-parts-alone k (many n e lazy r) h = refl
-
-pub parts-link : (k : Kind) (r : Node) (l : List Node) → Each (Not k) (r ∷ l) → parts k (link k r l) ≡ r ∷ l
-unfolding parts
-parts-link k r [] h = parts-alone k r (h .0)
-parts-link sequence r (q ∷ l) h = ap (λ x. r ∷ x) (parts-link sequence q l (h .1))
-parts-link alternation r (q ∷ l) h = ap (λ x. r ∷ x) (parts-link alternation q l (h .1))
-
-pub parts-flat : (k : Kind) (r : Node) → Flat r → Each (Not k) (parts k r)
-parts-flat k = by-parts k (λ r l. Flat r → Each (Not k) l) (λ r h f. (h, tt)) (more k)
-  where
-    more : (k : Kind) (r q : Node) (l : List Node) → (Flat q → Each (Not k) l) → Flat (pair k r q) → Each (Not k) (r ∷ l)
-    more sequence r q l f p = (p .0, f (p .2))
-    more alternation r q l f p = (p .0, f (p .2))
+-- The parts of a flat pattern are not of the kind.
+pub parts-flat : (k : Kind) (r : Node) → Flat r → All (Not k) (parts k r)
+parts-flat k r f = all-imp (Part k) (Not k) (λ q h. h .0) (parts k r) (spreads-parts (flat-spreads k) r f)
 
 -- Two or more parts that are not of a kind are what the pattern that they make closes.
-pub inner-link : (k : Kind) (r q : Node) (l : List Node) → Each (Not k) (r ∷ q ∷ l) → inner (link k r (q ∷ l)) ≡ r ∷ q ∷ l
+pub inner-link : (k : Kind) (r q : Node) (l : List Node) → All (Not k) (r ∷ q ∷ l) → inner (link k r (q ∷ l)) ≡ r ∷ q ∷ l
 unfolding inner
-inner-link sequence r q l h = ap (λ x. r ∷ x) (parts-link sequence q l (h .1))
-inner-link alternation r q l h = ap (λ x. r ∷ x) (parts-link alternation q l (h .1))
+inner-link sequence r q l h = ap (λ x. r ∷ x) (parts-link sequence q l (h .1 .0) (h .1 .1))
+inner-link alternation r q l h = ap (λ x. r ∷ x) (parts-link alternation q l (h .1 .0) (h .1 .1))
 
-pub proper-link : (k : Kind) (r : Node) (l : List Node) → Each Proper (r ∷ l) → Proper (link k r l)
-proper-link k r [] p = p .0
-proper-link sequence r (q ∷ l) p = (p .0, proper-link sequence q l (p .1))
-proper-link alternation r (q ∷ l) p = (p .0, proper-link alternation q l (p .1))
+pub proper-link : (k : Kind) (r : Node) (l : List Node) → All Proper (r ∷ l) → Proper (link k r l)
+proper-link k r l p = spreads-link (proper-spreads k) r l (p .0) (p .1)

@@ -2,8 +2,8 @@
 use mathlib.Core.Bool.{Bool, true, false, cond}
 use mathlib.Core.Option.{Option, none, some}
 use mathlib.Core.List.{List, [], _∷_, _++_}
-use Prim.Native.Nat.{ℕ, zero, suc, _+_, min}
-use lib.ListN.{length, replicate}
+use Prim.Native.Nat.{ℕ, zero, suc, _+_, _-_, _*_, min}
+use lib.ListN.{length, getD, replicate}
 use Rattle.meaning.specs.Limits.{rowLimit, noMaximum, setWords}
 use Rattle.meaning.specs.Node.{Node, Node.empty, Node.bset, Node.assert, Node.group, Node.seq, Node.alt, Node.many, lo, hi}
 use Rattle.meaning.specs.Flat.{Kind, Kind.sequence, Kind.alternation, parts}
@@ -46,6 +46,10 @@ mostWord = setWord + 1
 
 abbrev pub lazyWord : ℕ
 lazyWord = setWord + 2
+
+-- Word `which` of the record before record number `top`.
+abbrev pub wordOf : List ℕ → ℕ → ℕ → ℕ
+wordOf table top which = getD table (recordWords * (top - 1) + which) 0
 
 -- The kinds of records.
 abbrev pub emptyKind : ℕ

@@ -1,15 +1,16 @@
 // The table: the records of a pattern, 16 words each, a part after the parts inside it (docs/TABLE.md).
 ghost use mathlib.Core.Path.{_≡_};
 ghost use Prim.Native.Nat.{_+_, _-_, _*_, _<_, _≤_, min, max};
-ghost use lib.ListN.{length, getD};
+ghost use lib.ListN.{length, take, drop, getD};
 ghost use lib.Seq.{paste};
 ghost use Rattle.meaning.specs.Node.{lower};
-ghost use Rattle.meaning.specs.Limits.{noMaximum};
-ghost use Rattle.table.specs.Table.{recordWords, sizeCap};
+ghost use Rattle.meaning.specs.Limits.{noMaximum, setWords};
+ghost use Rattle.table.specs.Table.{recordWords, recordsWord, setWord, wordOf, sizeCap};
 ghost use Rattle.table.specs.Derived.{rootOf, besideOf, leafOf, turnsOf, closedSize};
-ghost use Rattle.table.specs.Stands.{SomeRow, SomeMade, Along, Derives, Beside, Closing, Putting, Puts};
+ghost use Rattle.table.specs.Stands.{SomeSeries, SomeMade, Along, Derives, Beside, Closing, Putting, Puts};
 use meaning::limits::NO_MAXIMUM;
 use meaning::limits::ROW_LIMIT;
+use meaning::limits::SET_WORDS;
 
 // The words of a record, and which they are: kind, operand, records, items, size, lowest and highest group; from SET on a byte
 // set, or a quantifier's minimum, maximum and laziness. specs/Table.antt has the definitions.
@@ -66,9 +67,29 @@ pub struct Derived {
 // Word `which` of the record before record number `top`.
 pub fn word(table: &[u32], top: usize, which: usize) -> u32
     requires { ⌜ (0 < top) × (which < recordWords) × (recordWords * top ≤ length (now table)) ⌝ }
-    ensures { λ r. ⌜ r ≡ getD (now (table .entry)) (recordWords * (top - 1) + which) 0 ⌝ }
+    ensures { λ r. ⌜ r ≡ wordOf (now (table .entry)) top which ⌝ }
 {
     table[RECORD_WORDS * (top - 1) + which]
+}
+
+// Where the part before the one that ends at `top` ends.
+pub fn previous(table: &[u32], top: usize) -> usize
+    requires { ⌜ (0 < top) × (recordWords * top ≤ length (now table)) × (wordOf (now table) top recordsWord ≤ top) ⌝ }
+    ensures { λ r. ⌜ r ≡ top - wordOf (now (table .entry)) top recordsWord ⌝ }
+{
+    top - word(table, top, RECORDS) as usize
+}
+
+// The last eight words of that record: a byte set, or a quantifier's minimum, maximum and laziness.
+pub fn last_words(table: &[u32], top: usize) -> [u32; SET_WORDS]
+    requires { ⌜ (0 < top) × (recordWords * top ≤ length (now table)) ⌝ }
+    ensures { λ r. ⌜ r ≡ take setWords (drop (recordWords * (top - 1) + setWord) (now (table .entry))) ⌝ }
+{
+    let mut last = [0u32; SET_WORDS];
+    for i in 0..SET_WORDS {
+        last[i] = word(table, top, SET + i);
+    }
+    last
 }
 
 // The derived words of the record before record number `top`.
@@ -121,7 +142,7 @@ fn beside(left: Derived, right: Derived) -> Derived
 // The derived words of the items whose records end at `top`, together. They are taken from the last one back: its root
 // stands right below `top`, and says where the one before it ends.
 fn along(table: &[u32], top: usize, items: u32) -> Derived
-    requires { ⌜ SomeRow (now table) top items ⌝ }
+    requires { ⌜ SomeSeries (now table) top items ⌝ }
     ensures { λ r. ⌜ Along r (now (table .entry)) top items ⌝ }
 {
     let mut all = root(table, top);

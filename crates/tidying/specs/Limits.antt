@@ -7,7 +7,7 @@ use Prim.Native.Nat.{ℕ}
 use native.Mathlib.Omega.{arith}
 use lib.Dec.{eqb}
 use Rattle.meaning.specs.Node.{Node, Node.empty, Node.bset, Node.assert, Node.group, Node.seq, Node.alt, Node.many}
-use Rattle.meaning.specs.Reach.{All}
+use Rattle.meaning.specs.All.{All}
 use Rattle.meaning.specs.Flat.{Kind, Kind.sequence, Kind.alternation, pair, parts, join, items, ofItems, ofAlternatives, glue}
 use Rattle.meaning.specs.Flat.{Spreads, spreads-link, spreads-parts, spreads-glue}
 use Rattle.tidying_shapes.specs.Parse.{LimitedAll}

@@ -10,7 +10,8 @@ use Rattle.meaning.specs.Node.{Node, Node.empty, Node.bset, Node.assert, Node.g
 use Rattle.meaning.specs.Flat.{Kind, Kind.sequence, Kind.alternation, pair, parts, by-parts}
 use Rattle.meaning.specs.Results.{concatMap}
 use Rattle.table.specs.Table.{recordWords, recordCount, records}
-use Rattle.table.specs.Laws.{Each, each-left, each-right, inner, countAll, records-append, long, long-all, inner-count}
+use Rattle.meaning.specs.All.{All, all-left, all-right}
+use Rattle.table.specs.Laws.{inner, countAll, records-append, long, long-all, inner-count}
 use Rattle.tidying_shapes.specs.Parse.{LimitedAll}
 use Rattle.table.specs.Stands.{Stands}
 use Rattle.table.specs.Roots.{stands-under, stands-long, parts-stand}
@@ -34,11 +35,11 @@ sound-pair alternation r q h = (
   record { proper = h .proper .1; limited = h .limited .1; positive = positive-both (groups r) (groups q) (h .positive) .1 },
 )
 
-sound-parts : (k : Kind) (r : Node) → Sound r → Each Sound (parts k r)
-sound-parts k = by-parts k (λ r l. Sound r → Each Sound l) (λ r n h. (h, tt))
+sound-parts : (k : Kind) (r : Node) → Sound r → All Sound (parts k r)
+sound-parts k = by-parts k (λ r l. Sound r → All Sound l) (λ r n h. (h, tt))
     (λ r q l f h. let s = sound-pair k r q h in (s .0, f (s .1)))
 
-pub sound-inner : (r : Node) → Sound r → Each Sound (inner r)
+pub sound-inner : (r : Node) → Sound r → All Sound (inner r)
 unfolding inner groups
 sound-inner empty h = tt
 sound-inner (bset s) h = tt
@@ -61,7 +62,7 @@ pub record Ends (table : List ℕ) (top : ℕ) (before : List ℕ) (r : Node) : 
 pub record Row (table : List ℕ) (top items : ℕ) (before : List ℕ) (l : List Node) : Type 0 where
   pub stands : Stands table top (before ++ concatMap records l)
   pub counted : items ≡ length l
-  pub sound : Each Sound l
+  pub sound : All Sound l
 
 -- What is asked: that there is such a part, or such a row of one part or more.
 pub record SomePart (table : List ℕ) (top : ℕ) : Type 0 where
@@ -143,7 +144,7 @@ module _ {table : List ℕ} {top items : ℕ} {before : List ℕ} (front : List 
   pub last-ends : Ends table top (before ++ concatMap records front) q
   last-ends = record {
     stands = rw words at (row .stands);
-    sound = each-right Sound front (q ∷ []) (row .sound) .0;
+    sound = all-right Sound front (q ∷ []) (row .sound) .0;
   }
     where
       words : before ++ concatMap records (front ++ (q ∷ [])) ≡ before ++ concatMap records front ++ records q
@@ -156,5 +157,5 @@ module _ {table : List ℕ} {top items : ℕ} {before : List ℕ} (front : List 
     stands = stands-under (before ++ concatMap records front) (records q) (recordCount q) (last-ends .stands)
         (long q (last-ends .sound .proper));
     counted = omega (arith, row .counted, length-append front (q ∷ []));
-    sound = each-left Sound front (q ∷ []) (row .sound);
+    sound = all-left Sound front (q ∷ []) (row .sound);
   }

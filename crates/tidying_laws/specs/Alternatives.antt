@@ -10,7 +10,7 @@ use Rattle.meaning.specs.Tests.{and-true}
 use Rattle.meaning.specs.Text.{Input, State, size}
 use Rattle.meaning.specs.Node.{Node, Node.empty, Node.bset, Node.assert, Node.group, Node.seq, Node.alt, Node.many, Proper}
 use Rattle.meaning.specs.Results.{orElse, orElse-none, orElse-assoc, results}
-use Rattle.meaning.specs.Reach.{All}
+use Rattle.meaning.specs.All.{All}
 use Rattle.tidying_laws.specs.Choices.{swap, any, earlier}
 use Rattle.tidying_laws.specs.Groups.{groups, groupFree, free-groups}
 use Rattle.tidying_laws.specs.Void.{noBytes, Fair}

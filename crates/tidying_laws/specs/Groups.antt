@@ -6,9 +6,9 @@ use Prim.Native.Nat.{ℕ, zero, suc, _≤_, max}
 use native.Mathlib.Omega.{arith}
 use Rattle.meaning.specs.Text.{State, cleared, wiped}
 use Rattle.meaning.specs.Node.{Node, Node.empty, Node.bset, Node.assert, Node.group, Node.seq, Node.alt, Node.many}
-use Rattle.meaning.specs.Node.{lower, lo, hi}
+use Rattle.meaning.specs.Node.{lower, lo, hi, Proper}
 use Rattle.meaning.specs.Results.{fresh}
-use Rattle.meaning.specs.Reach.{All}
+use Rattle.meaning.specs.All.{All, all-append}
 use Rattle.meaning.specs.Numbering.{Numbers}
 
 -- The numbers of the groups, from left to right.
@@ -79,6 +79,18 @@ renumber r q a b e h = down q a b (subst (λ (l : List ℕ). Up a l b) e (up r a
 -- No group of a pattern is group 0, which is the whole match.
 abbrev pub Positive : List ℕ → Type 0
 Positive l = All (λ k. 1 ≤ k) l
+
+pub proper-positive : (r : Node) → Proper r → Positive (groups r)
+unfolding groups
+proper-positive empty p = tt
+proper-positive (bset s) p = tt
+proper-positive (assert a) p = tt
+proper-positive (group k r) p = (p .0, proper-positive r (p .1))
+proper-positive (seq r q) p =
+    all-append (λ k. 1 ≤ k) (groups r) (groups q) (proper-positive r (p .0)) (proper-positive q (p .1))
+proper-positive (alt r q) p =
+    all-append (λ k. 1 ≤ k) (groups r) (groups q) (proper-positive r (p .0)) (proper-positive q (p .1))
+proper-positive (many n e lazy r) p = proper-positive r (p .1)
 
 pub positive : (r : Node) (a b : ℕ) → 1 ≤ a → Numbers a r b → Positive (groups r)
 positive r a b pos h = from (groups r) a pos (up r a b h)

@@ -10,7 +10,8 @@ use Rattle.meaning.specs.Tests.{and-true}
 use Rattle.meaning.specs.Text.{Input, State, size}
 use Rattle.meaning.specs.Node.{Node, Node.empty, Node.bset, Proper}
 use Rattle.meaning.specs.Results.{orElse-none, results}
-use Rattle.meaning.specs.Reach.{All, Reach, reach, first-cong}
+use Rattle.meaning.specs.All.{All}
+use Rattle.meaning.specs.Reach.{Reach, reach, first-cong}
 use Rattle.machine.specs.Layout.{sizeOf}
 use Rattle.tidying_laws.specs.Choices.{guarded, any}
 use Rattle.tidying_laws.specs.Groups.{groups, groupFree, free-groups}

@@ -81,7 +81,7 @@ t2-kept = on-many Kept _ (λ n e lazy r. let P : Node → Type 1 = Kept (many n 
     (ok-when P (counts n e 1 (some 0) && groupFree r) r (λ t.
     let (c, p) = and-true (counts n e 1 (some 0)) (groupFree r) t in
     let (a, b) = counts-eq n e 1 (some 0) c in
-    rw (a, b) (kept (T2-one lazy r p) (λ g. g) (λ g. g) (omega (arith, extra-one r)))))
+    rw (a, b) (kept (T2-one lazy r p) (λ g. g) (λ g. g .1) (omega (arith, extra-one r)))))
     (ok-when P (counts n e 0 (some 0) && groupFree r) empty (λ t.
     let (c, p) = and-true (counts n e 0 (some 0)) (groupFree r) t in
     let (a, b) = counts-eq n e 0 (some 0) c in
@@ -99,8 +99,8 @@ t4-kept = on-many Kept _ (λ n e lazy. on-assert (λ p q. Kept (many n e lazy p)
   where
     by : (n : ℕ) (e : Option ℕ) (lazy : Bool) (a : ℕ) → Kept (many n e lazy (assert a)) (cond (eqb n 0) empty (assert a))
     by zero e lazy a = kept (T4-none e lazy a) (λ g. tt) (λ g. tt) (omega arith)
-    by (suc n) none lazy a = rw (eqb·suc-zero n) (kept (T4-some n none lazy a) (λ g. tt) (λ g. g) (omega arith))
-    by (suc n) (some k) lazy a = rw (eqb·suc-zero n) (kept (T4-some n (some k) lazy a) (λ g. tt) (λ g. g) (omega arith))
+    by (suc n) none lazy a = rw (eqb·suc-zero n) (kept (T4-some n none lazy a) (λ g. tt) (λ g. g .1) (omega arith))
+    by (suc n) (some k) lazy a = rw (eqb·suc-zero n) (kept (T4-some n (some k) lazy a) (λ g. tt) (λ g. g .1) (omega arith))
 
 pub t5-kept : (r : Node) → Ok (Kept r) (t5 r)
 unfolding t5 sizeOf weight charge extra
@@ -108,7 +108,7 @@ t5-kept = on-many Kept _ (λ n e lazy. on-many (λ p q. Kept (many n e lazy p) q
     ok-when (Kept (many n e lazy (many m f inner r)))
     (counts n e 0 none && counts m f 0 none && absorbed inner lazy && groupFree r) (many 0 none lazy r) (λ t.
     let (a, b, c, d, o, p) = tests n e 0 none m f 0 none (absorbed inner lazy) r t in
-    rw (a, b, c, d) (kept (T5 inner lazy o r p) (λ g. g) (λ g. g) (omega arith)))))
+    rw (a, b, c, d) (kept (T5 inner lazy o r p) (λ g. g) (λ g. g .1) (omega arith)))))
 
 pub t9-kept : (r : Node) → Ok (Kept r) (t9 r)
 unfolding t9 sizeOf weight charge extra
@@ -116,4 +116,4 @@ t9-kept = on-many Kept _ (λ n e lazy. on-many (λ p q. Kept (many n e lazy p) q
     ok-when (Kept (many n e lazy (many m f inner r)))
     (counts n e 0 (some 1) && counts m f 0 (some 1) && Bool·beq lazy inner && groupFree r) (many 0 (some 1) lazy r) (λ t.
     let (a, b, c, d, o, p) = tests n e 0 (some 1) m f 0 (some 1) (Bool·beq lazy inner) r t in
-    rw (a, b, c, d, ← beq-eq lazy inner o) (kept (T9 lazy r p) (λ g. g) (λ g. g) (omega arith)))))
+    rw (a, b, c, d, ← beq-eq lazy inner o) (kept (T9 lazy r p) (λ g. g) (λ g. g .1) (omega arith)))))

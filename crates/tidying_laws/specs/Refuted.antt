@@ -9,7 +9,7 @@ use lib.ListN.{length, getD}
 use Rattle.sets.specs.Sets.{bit, has}
 use Rattle.meaning.specs.Text.{Regs, unset, fits, holdsAt, opened, closed, wiped, cleared}
 use Rattle.meaning.specs.Node.{Node, Node.empty, Node.bset, Node.assert, Node.group, Node.seq, Node.alt, Node.many, lo, hi}
-use Rattle.meaning.specs.Reach.{All}
+use Rattle.meaning.specs.All.{All}
 use Rattle.meaning.specs.Numbering.{Numbers}
 use Rattle.meaning.specs.Standard.{matcher, repeatMatcher, matchAt}
 use Rattle.meaning.specs.Bytes.{Bytes, asserts, textOf}

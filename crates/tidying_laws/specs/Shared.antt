@@ -9,7 +9,7 @@ use Rattle.meaning.specs.Text.{Input, State, size, fits}
 use Rattle.meaning.specs.Node.{Node, Node.empty, Node.bset, Node.seq, Proper}
 use Rattle.meaning.specs.Results.{orElse, orElse-none, orElse-assoc, firstSome, moved}
 use Rattle.meaning.specs.Results.{results, first-concatMap}
-use Rattle.meaning.specs.Reach.{All}
+use Rattle.meaning.specs.All.{All}
 use Rattle.machine.specs.Layout.{sizeOf}
 use Rattle.tidying_laws.specs.Choices.{guarded, first-only}
 use Rattle.tidying_laws.specs.Groups.{groups}

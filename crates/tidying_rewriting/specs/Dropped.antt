@@ -8,7 +8,8 @@ use Rattle.meaning.specs.Node.{Node, Node.bset, Proper}
 use Rattle.meaning.specs.Flat.{Kind, Kind.alternation, Not}
 use Rattle.meaning.specs.Results.{concatMap}
 use Rattle.table.specs.Table.{recordWords, recordCount, records}
-use Rattle.table.specs.Laws.{Each, each-append, each-left, each-right, inner, kindOf, parts-flat}
+use Rattle.meaning.specs.All.{All, all-append, all-left, all-right}
+use Rattle.table.specs.Laws.{inner, kindOf, parts-flat}
 use Rattle.table.specs.Laws.{countAll, records-append, long-all}
 use Rattle.table.specs.Stands.{Stands}
 use Rattle.table.specs.Roots.{stands-under}
@@ -31,7 +32,7 @@ use Rattle.tidying_rewriting.specs.Frames.{Cut}
 use Rattle.tidying_rewriting.specs.Rows.{skeletons-count, skeletons-append, Closes, Closing, joined}
 use Rattle.tidying_rewriting.specs.Dropping.{dropping, Drop, drop-of, void-alternation, void-sequence}
 
-pub each-proper : (l : List Node) → Each Sound l → Each Proper l
+pub each-proper : (l : List Node) → All Sound l → All Proper l
 each-proper [] h = tt
 each-proper (r ∷ l) h = (h .0 .proper, each-proper l (h .1))
 
@@ -42,14 +43,14 @@ module _ {table : List ℕ} {n part : ℕ} {before : List ℕ} {x : Node} {l m :
   row : Row table (part + 1 - 1) (length (front ++ (q ∷ more))) before (front ++ (q ∷ more))
   row = rw split at (inside (p .ends))
 
-  sound : Each Sound (q ∷ more)
-  sound = each-right Sound front (q ∷ more) (row .sound)
+  sound : All Sound (q ∷ more)
+  sound = all-right Sound front (q ∷ more) (row .sound)
 
   pub inner-tokens : concatMap skeleton (inner x) ≡ concatMap skeleton front ++ (skeleton q ++ concatMap skeleton more)
   inner-tokens = ap (concatMap skeleton) split ∙ skeletons-append front (q ∷ more)
 
   pub front-count : length (concatMap skeleton front) ≡ countAll front
-  front-count = skeletons-count front (each-proper front (each-left Sound front (q ∷ more) (row .sound)))
+  front-count = skeletons-count front (each-proper front (all-left Sound front (q ∷ more) (row .sound)))
 
   pub part-count : length (skeleton q) ≡ recordCount q
   part-count = skeleton-count q (sound .0 .proper)
@@ -78,7 +79,7 @@ module _ {table : List ℕ} {n part : ℕ} {before : List ℕ} {x : Node} {l m :
           ∙ sym (append-assoc before (concatMap records front) (records q ++ concatMap records more))
           ∙ sym (append-assoc first (records q) (concatMap records more))
 
-      proper : Each Proper more
+      proper : All Proper more
       proper = each-proper more (sound .1)
 
       number : part + 1 - 1 - countAll more ≡ length l + length (concatMap skeleton front) + recordCount q
@@ -147,8 +148,8 @@ module _ (mark : Mark) {table : List ℕ} {n part : ℕ} {before : List ℕ} {x 
       }
 
 -- Without it the others are left, and the row is closed over them.
-each-without : (k : Kind) (a : List Node) (q : Node) (b : List Node) → Each (Not k) (a ++ (q ∷ b)) → Each (Not k) (a ++ b)
-each-without k a q b h = each-append (Not k) a b (each-left (Not k) a (q ∷ b) h) (each-right (Not k) a (q ∷ b) h .1)
+each-without : (k : Kind) (a : List Node) (q : Node) (b : List Node) → All (Not k) (a ++ (q ∷ b)) → All (Not k) (a ++ b)
+each-without k a q b h = all-append (Not k) a b (all-left (Not k) a (q ∷ b) h) (all-right (Not k) a (q ∷ b) h .1)
 
 module _ {mark : Mark} {table table′ : List ℕ} {n part n′ end from items : ℕ} {before : List ℕ} {x y : Node}
     {l m : List Token} (fit : Fitting (dropping mark) table n part before x y l m)

@@ -12,7 +12,8 @@ use Rattle.meaning.specs.Node.{Node, Node.empty}
 use Rattle.meaning.specs.Flat.{Kind.sequence, Not, join}
 use Rattle.meaning.specs.Results.{concatMap}
 use Rattle.table.specs.Table.{recordWords, recordsIn, recordCount}
-use Rattle.table.specs.Laws.{Each, inner, kindOf, parts-flat}
+use Rattle.meaning.specs.All.{All}
+use Rattle.table.specs.Laws.{inner, kindOf, parts-flat}
 use Rattle.tidying_laws.specs.Choices.{any}
 use Rattle.tidying_laws.specs.Equal.{same-eq}
 use Rattle.tidying_laws.specs.Laws.{when, isEmpty, filled, t1}
@@ -122,12 +123,12 @@ module _ {table : List ℕ} {n : ℕ} {before : List ℕ} {x : Node} {l m : List
     item-few r = let all = r ∙ last-word turn 2 (omega arith) in omega (arith, turn .few)
 
 -- In the end the row is closed over the filled items.
-each-filled : (l : List Node) → Each (Not sequence) l → Each (Not sequence) (filled l)
+each-filled : (l : List Node) → All (Not sequence) l → All (Not sequence) (filled l)
 unfolding filled
 each-filled [] h = tt
 each-filled (r ∷ l) h = go (isEmpty r) (each-filled l (h .1))
   where
-    go : (b : Bool) → Each (Not sequence) (filled l) → Each (Not sequence) (cond b (filled l) (r ∷ filled l))
+    go : (b : Bool) → All (Not sequence) (filled l) → All (Not sequence) (cond b (filled l) (r ∷ filled l))
     go true g = g
     go false g = (h .0, g)
 

@@ -6,9 +6,10 @@ use Prim.Native.Nat.{ℕ, zero, suc, _+_, _-_}
 use native.Mathlib.Omega.{arith}
 use lib.ListN.{length, length-append}
 use Rattle.meaning.specs.Node.{Node, Node.empty, Node.bset, Node.assert, Node.group, Node.seq, Node.alt, Node.many, Proper}
-use Rattle.meaning.specs.Flat.{Kind, Kind.sequence, Kind.alternation, Not, parts, link, join}
+use Rattle.meaning.specs.Flat.{Kind, Kind.sequence, Kind.alternation, Not, parts, link, join, parts-link}
 use Rattle.meaning.specs.Results.{concatMap}
-use Rattle.table.specs.Laws.{Each, inner, countAll, parts-link}
+use Rattle.meaning.specs.All.{All}
+use Rattle.table.specs.Laws.{inner, countAll}
 use Rattle.tidying_laws.specs.Laws.{onParts}
 use Rattle.tidying_laws.specs.Kept.{Ok, ok-two}
 use Rattle.tidying_shapes.specs.Skeleton.{Token, token, rowToken, skeletonIn, skeleton, row-parts, pair-own}
@@ -18,7 +19,7 @@ use Rattle.tidying_shapes.specs.Told.{skeleton-count}
 use Rattle.tidying_rewriting.specs.Rewriting.{leafToken}
 
 -- As many tokens as records.
-pub skeletons-count : (l : List Node) → Each Proper l → length (concatMap skeleton l) ≡ countAll l
+pub skeletons-count : (l : List Node) → All Proper l → length (concatMap skeleton l) ≡ countAll l
 skeletons-count [] p = refl
 skeletons-count (r ∷ l) p =
     omega (arith, length-append (skeleton r) (concatMap skeleton l), skeleton-count r (p .0), skeletons-count l (p .1))
@@ -62,7 +63,7 @@ closed k zero ts = leafToken 1 ∷ []
 closed k (suc zero) ts = ts
 closed k (suc (suc i)) ts = ts ++ (rowToken k (suc (suc i)) ∷ [])
 
-pub closed-join : (k : Kind) (l : List Node) → Each (Not k) l
+pub closed-join : (k : Kind) (l : List Node) → All (Not k) l
     → closed k (length l) (concatMap skeleton l) ≡ skeleton (join k l)
 unfolding skeletonIn inner
 closed-join k [] h = refl
@@ -103,7 +104,7 @@ pub record Closing (table : List ℕ) (n root kept : ℕ) (k : Kind) (parts : Li
   pub says : Says table n (l ++ (concatMap skeleton parts ++ (rowToken k old ∷ m)))
   pub here : length l + length (concatMap skeleton parts) ≡ root
   pub counted : kept ≡ length parts
-  pub apart : Each (Not k) parts
+  pub apart : All (Not k) parts
 
 pub joined : {table table′ : List ℕ} {n root kept n′ : ℕ} {k : Kind} {parts : List Node} {l m : List Token}
     → Closes table table′ n root kept n′ → Closing table n root kept k parts l m

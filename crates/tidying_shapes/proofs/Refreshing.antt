@@ -9,7 +9,8 @@ use lib.Seq.{length-take-le}
 use Rattle.meaning.specs.Node.{Node, Proper}
 use Rattle.meaning.specs.Results.{concatMap}
 use Rattle.table.specs.Table.{recordWords, records}
-use Rattle.table.specs.Laws.{Each, each-append, each-left, each-right, inner, lastOf, records-append}
+use Rattle.meaning.specs.All.{All, all-append, all-left, all-right}
+use Rattle.table.specs.Laws.{inner, lastOf, records-append}
 use Rattle.table.specs.Derived.{recordLimit}
 use Rattle.table.specs.Stands.{Stands, Made, Putting, Puts}
 use Rattle.tidying_shapes.specs.Skeleton.{Token}
@@ -23,7 +24,7 @@ pub record Passed (table : List ℕ) (n at : ℕ) (r : Node) : Type 0 where
   pub stack : List Node
   pub rebuilt : Rebuilds stack (tokensFrom table at (n - at)) (r ∷ [])
   pub stands : Stands table at (concatMap records stack)
-  pub proper : Each Proper stack
+  pub proper : All Proper stack
 
 pub record Passing (table₀ : List ℕ) (n : ℕ) (table : List ℕ) (at : ℕ) : Type 0 where
   pub by : (r : Node) → Said table₀ n r → Passed table n at r
@@ -73,7 +74,7 @@ module _ {table₀ : List ℕ} {n : ℕ} {table : List ℕ} {at : ℕ} {last : L
       row = record {
         stands = rw records-append at (rw (closes .inside) at (p .by r said .stands));
         counted = ap (λ t. t .items) (closes .says);
-        proper = each-right Proper (closes .below) (inner (closes .part)) (rw (closes .inside) at (p .by r said .proper));
+        proper = all-right Proper (closes .below) (inner (closes .part)) (rw (closes .inside) at (p .by r said .proper));
         low = omega (arith, p .few);
       };
       same-kind = ap (λ t. t .kind) (closes .says);
@@ -111,8 +112,8 @@ module _ {table₀ : List ℕ} {n : ℕ} {table : List ℕ} {at : ℕ} {last : L
           stack = c .below ++ (c .part ∷ []);
           rebuilt = rw rest at (rebuilt-here r said .1);
           stands = rw words (puts .by (concatMap records (c .below)) (c .part) (made r said) (last-of r said));
-          proper = each-append Proper (c .below) (c .part ∷ [])
-              (each-left Proper (c .below) (inner (c .part)) (rw (c .inside) at (p .by r said .proper))) (c .proper, tt);
+          proper = all-append Proper (c .below) (c .part ∷ [])
+              (all-left Proper (c .below) (inner (c .part)) (rw (c .inside) at (p .by r said .proper))) (c .proper, tt);
         };
     kept = long ∙ p .kept;
     room = p .room;

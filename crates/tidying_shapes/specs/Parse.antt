@@ -11,11 +11,12 @@ use lib.ListN.{length, getD, take, drop, length-append}
 use lib.Seq.{take-at, drop-at}
 use borrow.Author.Tests.{ne-eqb}
 use Rattle.meaning.specs.Node.{Node, Node.empty, Node.bset, Node.assert, Node.group, Node.seq, Node.alt, Node.many, Proper}
-use Rattle.meaning.specs.Flat.{Kind, Kind.sequence, Kind.alternation, pair, Not, parts, join, join-parts}
+use Rattle.meaning.specs.Flat.{Kind, Kind.sequence, Kind.alternation, pair, Not, parts, join, join-parts, parts-alone}
 use Rattle.meaning.specs.Results.{concatMap}
 use Rattle.meaning.specs.Limits.{noMaximum}
 use Rattle.table.specs.Table.{maximum, bitOf}
-use Rattle.table.specs.Laws.{Each, inner, parts-alone}
+use Rattle.meaning.specs.All.{All}
+use Rattle.table.specs.Laws.{inner}
 use Rattle.table.specs.Derived.{Limited}
 use Rattle.tidying_shapes.specs.Skeleton.{Token, token, rowToken, closing, skeletonIn, skeleton, pair-in, row-token}
 
@@ -192,7 +193,7 @@ rebuilt t (many n e lazy r) p m =
     rebuilt-wrap t (many n e lazy r) r (λ k. tt) refl p (m .0) refl (rebuilt none r p (m .1))
 
 -- The tokens of parts one after the other rebuild them.
-pub rebuilds-all : (l : List Node) → Each Proper l → Each LimitedAll l
+pub rebuilds-all : (l : List Node) → All Proper l → All LimitedAll l
     → (stack : List Node) (rest : List Token) (out : List Node) → Rebuilds (stack ++ l) rest out
     → Rebuilds stack (concatMap skeleton l ++ rest) out
 rebuilds-all [] p m stack rest out h = rw append-nil at h
@@ -209,14 +210,14 @@ unfolding parse
 parse-append [] b stack = refl
 parse-append (tok ∷ a) b stack = parse-append a b _
 
-pub parse-skeletons : (l : List Node) → Each Proper l → Each LimitedAll l → (stack : List Node) (rest : List Token)
+pub parse-skeletons : (l : List Node) → All Proper l → All LimitedAll l → (stack : List Node) (rest : List Token)
     → parse stack (concatMap skeleton l ++ rest) ≡ parse (stack ++ l) rest
 parse-skeletons l p m stack rest =
     parse-append (concatMap skeleton l) rest stack ∙ ap (λ s. parse s rest)
     (parsed (concatMap skeleton l) stack (stack ++ l) (rw append-nil at (rebuilds-all l p m stack [] (stack ++ l) refl)))
 
 -- Equal tokens are those of equal parts, and of one pattern.
-pub skeletons-injective : (l k : List Node) → Each Proper l → Each LimitedAll l → Each Proper k → Each LimitedAll k
+pub skeletons-injective : (l k : List Node) → All Proper l → All LimitedAll l → All Proper k → All LimitedAll k
     → concatMap skeleton l ≡ concatMap skeleton k → l ≡ k
 unfolding parse
 skeletons-injective l k p m p′ m′ e =

@@ -9,7 +9,7 @@ use lib.ListN.{length}
 use Rattle.meaning.specs.Node.{Node, Node.empty, Node.bset, Node.assert, Node.group, Node.seq, Node.alt, Node.many}
 use Rattle.meaning.specs.Flat.{Kind.sequence, parts, join, join-parts}
 use Rattle.meaning.specs.Results.{orElse}
-use Rattle.table.specs.Laws.{Each}
+use Rattle.meaning.specs.All.{All}
 use Rattle.tidying_laws.specs.Equal.{same, same-eq}
 use Rattle.tidying_laws.specs.Laws.{when, firstSet, restOf, Run, extend, run, glues, shared, sharedAt, share}
 use Rattle.tidying_laws.specs.Kept.{Ok, ok-when}
@@ -56,7 +56,7 @@ opening test (r ∷ l) = cond (test r) (r ∷ opening test l) []
 pub record RunOf (s : List ℕ) (l leads rests after : List Node) : Type 0 where
   pub split : l ≡ leads ++ after
   pub trimmed : rests ≡ map (left s) leads
-  pub all : Each (λ a. Lead s a (left s a)) leads
+  pub all : All (λ a. Lead s a (left s a)) leads
 
 pub run-of : (s : List ℕ) (l : List Node) → RunOf s l (opening (beginsWith (some s)) l) (run s l .0) (run s l .1)
 unfolding run opening

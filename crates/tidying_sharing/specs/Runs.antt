@@ -8,7 +8,8 @@ use lib.ListN.{length}
 use Rattle.meaning.specs.Node.{Node}
 use Rattle.meaning.specs.Results.{concatMap}
 use Rattle.table.specs.Table.{recordCount, records}
-use Rattle.table.specs.Laws.{each-left, each-right, countAll, count-append, records-append, long-all, inner-count}
+use Rattle.meaning.specs.All.{all-left, all-right}
+use Rattle.table.specs.Laws.{countAll, count-append, records-append, long-all, inner-count}
 use Rattle.table.specs.Roots.{stands-under}
 use Rattle.tidying_fitting.specs.Parts.{Sound, Ends, Row, SomePart, Tells, TellsBoth, Last, some-last, last-ends, shorter, room}
 use Rattle.tidying_fitting.specs.Words.{startOf}
@@ -21,9 +22,9 @@ pub row-front : {table : List ℕ} {top items : ℕ} {before : List ℕ} (a b : 
     → Row table (top - countAll b) (length a) before a
 row-front {before = before} a b r = record {
   stands = stands-under (before ++ concatMap records a) (concatMap records b) (countAll b) (rw words at (r .stands))
-      (long-all b (each-proper b (each-right Sound a b (r .sound))));
+      (long-all b (each-proper b (all-right Sound a b (r .sound))));
   counted = refl;
-  sound = each-left Sound a b (r .sound);
+  sound = all-left Sound a b (r .sound);
 }
   where
     words : before ++ concatMap records (a ++ b) ≡ (before ++ concatMap records a) ++ concatMap records b

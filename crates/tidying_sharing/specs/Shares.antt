@@ -9,7 +9,8 @@ use lib.ListN.{length, length-append, length-map}
 use Rattle.meaning.specs.Node.{Node, Node.bset, Node.seq}
 use Rattle.meaning.specs.Flat.{Kind.sequence, Kind.alternation, Not, parts, join, glue}
 use Rattle.meaning.specs.Results.{concatMap}
-use Rattle.table.specs.Laws.{Each, each-append, each-left, each-right, inner}
+use Rattle.meaning.specs.All.{All, all-append, all-left, all-right}
+use Rattle.table.specs.Laws.{inner}
 use Rattle.tidying_laws.specs.Laws.{firstSet, restOf, run, glues, share, t8}
 use Rattle.tidying_fitting.specs.Fitting.{isSome}
 use Rattle.tidying_fitting.specs.Places.{Split, behind, leftmost}
@@ -150,20 +151,20 @@ closed-ending (suc zero) ts m h = refl
 closed-ending (suc (suc i)) ts m h = append-assoc ts (rowToken alternation (suc (suc i)) ∷ []) m
 
 -- The result: the tokens in front, the set, what is left of the run, its alternation and its sequence, and the tokens after.
-module _ {x y : Node} (k : Shares x y) (apart : Each (Not alternation) (inner x)) where
+module _ {x y : Node} (k : Shares x y) (apart : All (Not alternation) (inner x)) where
   abbrev wrap : Node
   wrap = seq (bset (k .set)) (glued (rests k))
 
   abbrev row : List Node
   row = k .front ++ (wrap ∷ after k)
 
-  row-apart : Each (Not alternation) row
+  row-apart : All (Not alternation) row
   row-apart =
       let whole = rw (split-run k) at apart in
-      let behind = each-right (Not alternation) (k .front) (leads k ++ after k) whole in
-      each-append (Not alternation) (k .front) (wrap ∷ after k)
-      (each-left (Not alternation) (k .front) (leads k ++ after k) whole)
-      (tt, each-right (Not alternation) (leads k) (after k) behind)
+      let behind = all-right (Not alternation) (k .front) (leads k ++ after k) whole in
+      all-append (Not alternation) (k .front) (wrap ∷ after k)
+      (all-left (Not alternation) (k .front) (leads k ++ after k) whole)
+      (tt, all-right (Not alternation) (leads k) (after k) behind)
 
   joined-row : join alternation row ≡ y
   joined-row =

@@ -8,7 +8,8 @@ use Rattle.meaning.specs.Node.{Node}
 use Rattle.meaning.specs.Flat.{Kind.sequence, Kind.alternation, Not}
 use Rattle.meaning.specs.Results.{concatMap}
 use Rattle.table.specs.Table.{recordWords}
-use Rattle.table.specs.Laws.{Each, each-left, each-right, inner, parts-flat, countAll, count-append, inner-count}
+use Rattle.meaning.specs.All.{All, all-left, all-right}
+use Rattle.table.specs.Laws.{inner, parts-flat, countAll, count-append, inner-count}
 use Rattle.tidying_laws.specs.Laws.{t8}
 use Rattle.tidying_fitting.specs.Marks.{alike}
 use Rattle.tidying_fitting.specs.Parts.{Sound, Row, inside, room, sound-inner}
@@ -59,20 +60,20 @@ module _ {table : List ℕ} {n part : ℕ} {before : List ℕ} {x y : Node} {l m
   abbrev behind : List Token
   behind = concatMap skeleton (after k)
 
-  sounds : Each Sound (k .front ++ (leads k ++ after k))
+  sounds : All Sound (k .front ++ (leads k ++ after k))
   sounds = rw (split-run k) at (sound-inner x (fit .placed .ends .sound))
 
   front-count : length front ≡ countAll (k .front)
-  front-count = skeletons-count (k .front) (each-proper (k .front) (each-left Sound (k .front) (leads k ++ after k) sounds))
+  front-count = skeletons-count (k .front) (each-proper (k .front) (all-left Sound (k .front) (leads k ++ after k) sounds))
 
-  behind-sounds : Each Sound (leads k ++ after k)
-  behind-sounds = each-right Sound (k .front) (leads k ++ after k) sounds
+  behind-sounds : All Sound (leads k ++ after k)
+  behind-sounds = all-right Sound (k .front) (leads k ++ after k) sounds
 
   whole-count : length whole ≡ countAll (leads k)
-  whole-count = skeletons-count (leads k) (each-proper (leads k) (each-left Sound (leads k) (after k) behind-sounds))
+  whole-count = skeletons-count (leads k) (each-proper (leads k) (all-left Sound (leads k) (after k) behind-sounds))
 
   behind-count : length behind ≡ countAll (after k)
-  behind-count = skeletons-count (after k) (each-proper (after k) (each-right Sound (leads k) (after k) behind-sounds))
+  behind-count = skeletons-count (after k) (each-proper (after k) (all-right Sound (leads k) (after k) behind-sounds))
 
   tokens : concatMap skeleton (inner x) ≡ front ++ (whole ++ behind)
   tokens = ap (concatMap skeleton) (split-run k) ∙ skeletons-append (k .front) (leads k ++ after k)
@@ -207,7 +208,7 @@ module _ {table : List ℕ} {n part : ℕ} {before : List ℕ} {x y : Node} {l m
         counted : items - gone + 1 ≡ length (k .front) + suc (length (after k))
         counted = omega (arith, all-items, shortened .1)
 
-        apart : Each (Not alternation) (inner x)
+        apart : All (Not alternation) (inner x)
         apart = rw (k .all) (parts-flat alternation x (fit .placed .flat))
 
         result : skeleton y ++ m ≡ front ++ (setToken (k .set) ∷ (rest

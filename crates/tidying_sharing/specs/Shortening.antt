@@ -8,7 +8,7 @@ use Rattle.meaning.specs.Node.{Node}
 use Rattle.meaning.specs.Flat.{Kind.alternation, parts}
 use Rattle.meaning.specs.Results.{concatMap}
 use Rattle.table.specs.Table.{recordCount, records}
-use Rattle.table.specs.Laws.{Each, each-left, each-right}
+use Rattle.meaning.specs.All.{All, all-left, all-right}
 use Rattle.tidying_fitting.specs.Parts.{SomePart, Tells, Last, some-last, length-parts}
 use Rattle.tidying_fitting.specs.Words.{startOf}
 use Rattle.tidying_shapes.specs.Skeleton.{Token, skeleton}
@@ -34,7 +34,7 @@ pub record Running (table : List ℕ) (n from stop : ℕ) (before s : List ℕ) 
     (l ts : List Token) : Type 0 where
   pub walk : Walked table n stop (length (front ++ leads)) before (front ++ leads) l ts
   pub here : length l + length (concatMap skeleton front) ≡ from
-  pub all : Each (λ a. Lead s a (left s a)) leads
+  pub all : All (λ a. Lead s a (left s a)) leads
 
 -- What is asked: that there is such a run, of so few records that its alternatives can be counted in a word.
 pub record SomeRunning (table : List ℕ) (n from stop : ℕ) : Type 0 where
@@ -108,11 +108,11 @@ module _ {table : List ℕ} {n from end gone width : ℕ} {before s : List ℕ} 
     turn : Turned table n end (length (front ++ k .rest)) before before-it item l behind
     turn = turned before-it item (rw (append-assoc, ← last .split) (k .running .walk))
 
-    leads-all : Each (λ a. Lead s a (left s a)) (last .front ++ (item ∷ []))
+    leads-all : All (λ a. Lead s a (left s a)) (last .front ++ (item ∷ []))
     leads-all = rw (last .split) at (k .running .all)
 
     lead : Lead s item (left s item)
-    lead = each-right (λ a. Lead s a (left s a)) (last .front) (item ∷ []) leads-all .0
+    lead = all-right (λ a. Lead s a (left s a)) (last .front) (item ∷ []) leads-all .0
 
     pub item-there : SomePart table end
     item-there = record { before = before ++ concatMap records before-it; part = item; ends = turn .ends }
@@ -158,7 +158,7 @@ module _ {table : List ℕ} {n from end gone width : ℕ} {before s : List ℕ} 
               says = next .says;
             });
             here = k .running .here;
-            all = each-left (λ a. Lead s a (left s a)) (last .front) (item ∷ []) leads-all;
+            all = all-left (λ a. Lead s a (left s a)) (last .front) (item ∷ []) leads-all;
           };
           counted = omega (arith, k .counted);
           wide = omega (arith, k .wide, is);

@@ -91,7 +91,7 @@ pub +alternation+alternative+fresh+group+part+quantifier+repeats+sequence+turn+t
     (λ t. group-lts.spec (group-calls t) (group-at t) group.Post (group-proof.word-requires t)
     (group-proof.row-before-requires t) (group-proof.sub-part t) (group-proof.part-requires t)
     (group-proof.row-before-requires-2 t) (group-proof.same-length t) (group-proof.returns t))
-    (λ t. part-lts.spec (part-calls t) (part-at t) part.Post (part-proof.word-requires t) (part-proof.set-of-requires t)
+    (λ t. part-lts.spec (part-calls t) (part-at t) part.Post (part-proof.word-requires t) (part-proof.last-words-requires t)
     (part-proof.consuming-requires t) (part-proof.put-before-requires t) (part-proof.word-requires-2 t)
     (part-proof.row-before-requires t) (part-proof.group-requires t) (part-proof.sequence-requires t)
     (part-proof.alternation-requires t) (part-proof.quantifier-requires t) (part-proof.same-length t) (part-proof.returns t)

@@ -1,7 +1,7 @@
 -- The size in the table says how many rows there are; too many, or too few words for them, are refused.
 use native.Mathlib.Omega.{arith}
 use borrow.Author.Needs.{needs}
-use Rattle.code_rows.specs.Cases.{the-size}
+use Rattle.table.specs.Roots.{root-size}
 use Rattle.code_rows.specs.Asking.{word-there}
 use Rattle.code_rows.specs.Program.{tabled-part}
 use Rattle.code_rows.specs.Emission.{too-many, too-short, compiling, emitted}
@@ -16,7 +16,7 @@ word-requires c κs =
 add-n : tie.Need-add-n
 add-n c =
     let start = c .before .before .before in
-    omega (arith, (c .word) .ensures, the-size (tabled-part (start .pre .tabled)))
+    omega (arith, (c .word) .ensures, root-size (start .pre .tabled))
 
 returns : tie.Need-returns
 returns c =

@@ -1,11 +1,11 @@
--- `table::along` meets its contract: the walk over the row's parts goes on as the loop does. Assumes nothing.
+-- `table::along` meets its contract: the walk over the series's parts goes on as the loop does. Assumes nothing.
 use Prim.Native.Nat.{ℕ, _+_, _-_, _<_, _≤_}
 use mathlib.Core.Path.{_≡_, sym, ap, _∙_}
 use mathlib.Core.List.{List}
 use native.Mathlib.Omega.{arith}
 use borrow.Author.Needs.{needs}
 use Rattle.meaning.specs.Node.{Node}
-use Rattle.table.specs.Stands.{Row}
+use Rattle.table.specs.Stands.{Series}
 use Rattle.table.specs.Derived.{derivedOf, besideOf}
 use Rattle.table.proofs.Walk.{Walk, Turn, first, turn, over}
 use Rattle.table.proofs.along.Statement.{statement}
@@ -16,23 +16,23 @@ use Rattle.table.proofs.beside.Reads as beside-reads
 use Rattle.table.proofs.root.Reads as root-reads
 
 abbrev Inv-loop : tie.InvT-loop
-Inv-loop table top items all₀ left₀ all left = (before : List ℕ) (l : List Node) → Row table top items before l → Walk l left all
+Inv-loop table top items all₀ left₀ all left = (before : List ℕ) (l : List Node) → Series table top items before l → Walk l left all
 
 abbrev μ-loop : tie.MeasureT-loop
 μ-loop table top items all₀ left₀ all left = left
 
--- in a turn, for the row that was asked for
+-- in a turn, for the series that was asked for
 turning : (c : tie.In-loop Inv-loop μ-loop) →
     let a = c .before .before .before .before .args in
     Turn (a .table .now) (a .top) (c .before .loop .left) (c .before .before .before .before .pre .parts) (c .before .loop .all)
 turning c =
     let p = c .before .before .before .before .pre in
-    turn (p .row) (c .before .loop .inv (p .before) (p .parts) (p .row)) (c .loop-test .taken)
+    turn (p .series) (c .before .loop .inv (p .before) (p .parts) (p .series)) (c .loop-test .taken)
 
 root-requires : tie.Need-root-requires Inv-loop μ-loop
 root-requires c κs =
     let p = c .before .pre in
-    let f = first (p .row) (p .some) in
+    let f = first (p .series) (p .some) in
     omega (arith, f .1 .some, f .1 .few, f .1 .room)
 
 sub-left : tie.Need-sub-left Inv-loop μ-loop
@@ -40,7 +40,7 @@ sub-left c = omega (arith, c .before .before .pre .some)
 
 loop-holds : tie.Need-loop-holds Inv-loop μ-loop
 loop-holds c =
-    λ before l row. let f = first row (c .before .before .pre .some) in rw (c .root .ensures, f .1 .root) (f .2)
+    λ before l series. let f = first series (c .before .before .pre .some) in rw (c .root .ensures, f .1 .root) (f .2)
 
 cast-passed : tie.Need-cast-passed Inv-loop μ-loop
 cast-passed c = omega (arith, turning (c .before) .here .some, turning (c .before) .here .few)
@@ -62,7 +62,7 @@ beside-requires c κs =
         arith,
         t .here .some,
         t .here .few,
-        c .before .before .before .before .before .before .pre .row .low,
+        c .before .before .before .before .before .before .pre .low,
       ));
       left = rw root (omega arith);
       right = t .small;
@@ -76,15 +76,15 @@ loop-less c = search needs
 
 loop-again : tie.Need-loop-again Inv-loop μ-loop
 loop-again c =
-    λ before l row.
-    let t = turn row (c .before .before .before .before .loop .inv before l row) (c .before .before .before .loop-test .taken) in
+    λ before l series.
+    let t = turn series (c .before .before .before .before .loop .inv before l series) (c .before .before .before .loop-test .taken) in
     let both : c .beside .result ≡ besideOf (derivedOf (t .part)) (c .before .before .before .before .loop .all) =
     c .beside .ensures ∙ ap (λ d. besideOf d (c .before .before .before .before .loop .all))
     (c .before .root2 .ensures ∙ t .here .root) in
     rw both (t .walk)
 
 returns : tie.Need-returns Inv-loop μ-loop
-returns c = record { by = λ before l row. over (c .before .loop .inv before l row) (c .loop-test .left) }
+returns c = record { by = λ before l series. over (c .before .loop .inv before l series) (c .loop-test .left) }
 
 pub along-spec : {M : Type 1} → statement M
 along-spec =

@@ -1,5 +1,5 @@
 use native.Mathlib.Omega.{arith}
-use Rattle.table.proofs.Made.{leaf-derives, some-row, closing, records-fit, group-derives, other-derives}
+use Rattle.table.proofs.Made.{leaf-derives, some-series, closing, records-fit, group-derives, other-derives}
 use borrow.Author.Needs.{needs}
 use Rattle.table.proofs.derive.Statement.{statement}
 use Rattle.table.proofs.derive.Tie as tie
@@ -17,7 +17,7 @@ returns : tie.Need-returns
 returns c = rw (c .leaf .ensures) (leaf-derives (c .before .if1 .taken))
 
 along-requires : tie.Need-along-requires
-along-requires c κs = some-row (c .before .before .pre) (c .if1 .left)
+along-requires c κs = some-series (c .before .before .pre) (c .if1 .left)
 
 closed-size-requires : tie.Need-closed-size-requires
 closed-size-requires c κs = closing (c .before .before .before .pre) (c .before .if1 .left) (c .along .ensures)
@@ -25,7 +25,7 @@ closed-size-requires c κs = closing (c .before .before .before .pre) (c .before
 add-records : tie.Need-add-records
 add-records c =
     let s = c .before .before .before .before .before .pre in
-    omega (arith, records-fit s (c .before .before .before .if1 .left) (c .before .before .along .ensures), s .made .row .low)
+    omega (arith, records-fit s (c .before .before .before .if1 .left) (c .before .before .along .ensures), s .low)
 
 higher-requires : tie.Need-higher-requires
 higher-requires c κs = search needs

@@ -33,11 +33,11 @@ use Rattle.code_rows.proofs.turns.Reads as turns
 use Rattle.code_rows.proofs.turns.Kinds as turns-kinds
 use Rattle.code_rows.proofs.+alternation+alternative+fresh+group+part+quantifier+repeats+sequence+turn+turns.Lts-turns as turns-lts
 use Rattle.code_words.proofs.consuming.Reads as consuming-reads
-use Rattle.code_words.proofs.previous.Reads as previous-reads
+use Rattle.table.proofs.previous.Reads as previous-reads
 use Rattle.code_words.proofs.put_before.Reads as put-before-reads
 use Rattle.code_words.proofs.row_before.Reads as row-before-reads
-use Rattle.code_words.proofs.set_of.Reads as set-of-reads
-use Rattle.code_words.proofs.word.Reads as word-reads
+use Rattle.table.proofs.last_words.Reads as last-words-reads
+use Rattle.table.proofs.word.Reads as word-reads
 
 abbrev pub μ-alternation : Measures 2 alternation-kinds.ps ℕ
 μ-alternation κs a = 8 * a .1 .0 + 6
@@ -154,8 +154,8 @@ abbrev pub part-calls : ℕ → part-lts.Claims
 part-calls t = (
   word-reads.Asked,
   word-reads.Learnt,
-  set-of-reads.Asked,
-  set-of-reads.Learnt,
+  last-words-reads.Asked,
+  last-words-reads.Learnt,
   consuming-reads.Asked,
   consuming-reads.Learnt,
   put-before-reads.Asked,

@@ -1,11 +1,12 @@
 -- `fresh`: Reset is written before the part.
 use mathlib.Core.Path.{_≡_, refl, ap₂, _∙_}
 use Prim.Native.Nat.{ℕ, _+_, _≤_}
+use Rattle.machine.specs.Kinds.{resetKind}
 use Rattle.machine.specs.Words.{plainWords}
 use Rattle.machine.specs.Layout.{sizeOf}
 use Rattle.code_rows.specs.Emits.{Asks, freshSize}
 use Rattle.code_words.specs.Wrote.{wrote-as}
-use Rattle.code_rows.specs.Cases.{the-groups}
+use Rattle.table.specs.Roots.{root-groups}
 use Rattle.code_rows.specs.Shapes.{wrote-fresh}
 use Rattle.code_rows.specs.Asking.{word-there, asks-less, row-next}
 use borrow.Author.Needs.{needs}
@@ -56,6 +57,6 @@ module _ (t : ℕ) where
       let a = start .pre .1 in
       record {
         by = λ r p h.
-            let words = ap₂ (plainWords 7) (word .ensures ∙ the-groups p .0) (word2 .ensures ∙ the-groups p .1) in
+            let words = ap₂ (plainWords resetKind) (word .ensures ∙ root-groups (p .ends) .0) (word2 .ensures ∙ root-groups (p .ends) .1) in
             wrote-fresh r (a .room) (part .ensures .by r p (omega arith)) (wrote-as (row-before .ensures) refl words);
       }

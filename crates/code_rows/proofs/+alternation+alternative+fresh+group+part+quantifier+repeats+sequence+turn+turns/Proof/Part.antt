@@ -20,8 +20,8 @@ module _ (t : ℕ) where
       let start = c .before .before in
       word-there _ (omega arith) (start .pre .1 .part)
 
-  pub set-of-requires : lts.Need-set-of-requires (calls t) (asked t) reads.Post
-  set-of-requires c κs =
+  pub last-words-requires : lts.Need-last-words-requires (calls t) (asked t) reads.Post
+  last-words-requires c κs =
       let start = c .before .before .before .before .before in
       part-some (start .pre .1 .part)
 
@@ -84,13 +84,13 @@ module _ (t : ℕ) where
   returns c =
       let put-before = c .before .before .put-before in
       let consuming = c .before .before .before .consuming in
-      let set-of = c .before .before .before .before .set-of in
+      let last-words = c .before .before .before .before .last-words in
       let c5 = c .before .before .before .before .before in
       let kinds = c5 .before .match in
       let word = c5 .before .before .word in
       record {
         by = λ r p h.
-            let words = consuming .ensures ∙ ap (λ l. 2 ∷ 0 ∷ 0 ∷ 0 ∷ l) (set-of .ensures) in
+            let words = consuming .ensures ∙ ap (λ l. 2 ∷ 0 ∷ 0 ∷ 0 ∷ l) (last-words .ensures) in
             wrote-of (is-set r p (sym (word .ensures) ∙ kinds .keys1)) (wrote-set _ (wrote-as (put-before .ensures) refl words));
       }
 

@@ -5,7 +5,7 @@ use Rattle.meaning.specs.Node.{Node}
 use Rattle.machine.specs.Layout.{sizeOf, rowsOf}
 use Rattle.code_rows.specs.Emits.{Part}
 use Rattle.code_words.specs.Wrote.{same-long}
-use Rattle.code_rows.specs.Records.{inner}
+use Rattle.table.specs.Laws.{inner}
 use Rattle.code_rows.specs.Cases.{part-some, rest-of, is-sequence}
 use Rattle.code_rows.specs.Lines.{Lined, lined-none, lined-asks, lined-low, lined-more, lined-done}
 use Rattle.code_rows.specs.Shapes.{items-all, wrote-sequence}

@@ -16,7 +16,7 @@ use Rattle.reading_items.specs.Facts.{Item, Stretch}
 use Rattle.reading_items.specs.Meets.{Fine, OpensAt, grouped}
 use Rattle.reading_items.proofs.Singles.{meet, meet-no, item-single}
 use Rattle.reading.proofs.Turns.{Got-part, met-part, met-no, item-read, sequence-read, alternatives-read, kept-proper}
-use Rattle.reading.proofs.Turns.{part-top, some-part, row-small}
+use Rattle.reading.proofs.Turns.{part-top, some-part}
 use Rattle.reading.proofs.Turns.{Inv, start, fine-here, More, more, turn, closable, joined-meets, not-ended, at-bar}
 use Rattle.reading.proofs.Turns.{seq-end, seq-no, seq-more, alt-no, alt-end, alt-more, opens-no, opens-inside}
 use Prim.Native.Nat.{ℕ, _<_}
@@ -147,7 +147,7 @@ alternatives-splice-requires t c κs = some-part (alternatives-got t (c .before 
 
 pub alternatives-add-count : (t : ℕ) → alternatives-lts.Need-add-count (alternatives-calls t)
     (alternatives-at t) alternatives.Post alternatives-Inv-loop alternatives-μ-loop
-alternatives-add-count t c = omega (arith, row-small (alternatives-gathered t (c .before) .gathered .row))
+alternatives-add-count t c = omega (arith, alternatives-gathered t (c .before) .small)
 
 pub alternatives-byte-at-requires : (t : ℕ)
     → alternatives-lts.Need-byte-at-requires (alternatives-calls t)

@@ -16,7 +16,7 @@ use Rattle.reading_items.specs.Facts.{Item, Stretch}
 use Rattle.reading_items.specs.Meets.{Fine, OpensAt, grouped}
 use Rattle.reading_items.proofs.Singles.{meet, meet-no, item-single}
 use Rattle.reading.proofs.Turns.{Got-part, met-part, met-no, item-read, sequence-read, alternatives-read, kept-proper}
-use Rattle.reading.proofs.Turns.{part-top, some-part, row-small}
+use Rattle.reading.proofs.Turns.{part-top, some-part}
 use Rattle.reading.proofs.Turns.{Inv, start, fine-here, More, more, turn, closable, joined-meets, not-ended, at-bar}
 use Rattle.reading.proofs.Turns.{seq-end, seq-no, seq-more, alt-no, alt-end, alt-more, opens-no, opens-inside}
 use Prim.Native.Nat.{ℕ, _<_}
@@ -217,4 +217,4 @@ atom-returns-4 t c =
     (grouped ((c .before .before .before .before .before .before .before .before .before .before .before .before .from) .given
     .0 .1 .0) r) end g)) (g .read))
     ((c .before .before .closed) .ensures .by (take (recordWords * a .top) (a .table .now)) (g .node)
-    (kept-proper (atom-stretch t (c .before .before .before .before .before) .kept)) (g .stands))
+    (record { stands = g .stands; proper = kept-proper (atom-stretch t (c .before .before .before .before .before) .kept) }))

@@ -16,7 +16,7 @@ use Rattle.reading_items.specs.Facts.{Item, Stretch}
 use Rattle.reading_items.specs.Meets.{Fine, OpensAt, grouped}
 use Rattle.reading_items.proofs.Singles.{meet, meet-no, item-single}
 use Rattle.reading.proofs.Turns.{Got-part, met-part, met-no, item-read, sequence-read, alternatives-read, kept-proper}
-use Rattle.reading.proofs.Turns.{part-top, some-part, row-small}
+use Rattle.reading.proofs.Turns.{part-top, some-part}
 use Rattle.reading.proofs.Turns.{Inv, start, fine-here, More, more, turn, closable, joined-meets, not-ended, at-bar}
 use Rattle.reading.proofs.Turns.{seq-end, seq-no, seq-more, alt-no, alt-end, alt-more, opens-no, opens-inside}
 use Prim.Native.Nat.{ℕ, _<_}
@@ -148,7 +148,7 @@ sequence-splice-requires t c κs = some-part (sequence-got t (c .before .before)
 
 pub sequence-add-count : (t : ℕ) → sequence-lts.Need-add-count (sequence-calls t)
     (sequence-at t) sequence.Post sequence-Inv-loop sequence-μ-loop
-sequence-add-count t c = omega (arith, row-small (sequence-gathered t (c .before) .gathered .row))
+sequence-add-count t c = omega (arith, sequence-gathered t (c .before) .small)
 
 pub sequence-loop-less : (t : ℕ) → sequence-lts.Need-loop-less (sequence-calls t)
     (sequence-at t) sequence.Post sequence-Inv-loop sequence-μ-loop

@@ -7,7 +7,7 @@ use Rattle.sets.specs.Laws.{setOf-holds}
 use Rattle.meaning.specs.Node.{Node.assert}
 use Rattle.reading_atoms.specs.Classes.{takes}
 use Rattle.reading_atoms.specs.Answers.{escapeOf}
-use Rattle.reading_atoms.specs.Laws.{escape-byte, escape-named}
+use Rattle.reading_atoms.specs.Laws.{escape-byte, escape-named, escape-assertion}
 use Rattle.reading_items.specs.Reading.{Part.part, setItem, escapeItem}
 use Rattle.reading_items.specs.Numbers.{wrong-late}
 use Rattle.reading_items.proofs.Singles.{meet, meet-no, fine-on}
@@ -75,7 +75,10 @@ add-assertion : tie.Need-add-assertion
 add-assertion c = search needs
 
 assertion-requires : tie.Need-assertion-requires
-assertion-requires c κs = search needs
+assertion-requires c κs =
+    let start = c .before .before .before .before .before .before .before in
+    let is = sym (c .before .before .before .before .escape-at .ensures) ∙ ap escapeOf (c .before .before .number .given .1) in
+    (search needs, escape-assertion false (start .args .s .now) (start .args .at) (start .pre .0 .bytes) is .0)
 
 enum-known-number-2 : tie.Need-enum-known-number-2
 enum-known-number-2 c = search needs

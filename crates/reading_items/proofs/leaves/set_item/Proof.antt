@@ -20,16 +20,14 @@ add-quantified c = search needs
 
 quantified-requires : tie.Need-quantified-requires
 quantified-requires c κs =
-    let p = (c .before .before .before .before .before .before .before) .pre in
-    let stands = set-stands (fine-room (p .0)) ((c .before .before .before .put) .ensures) in (
-      behind-set (p .0) ((c .before .before .before .put) .kept .0),
+    let start = c .before .before .before .before .before .before .before in
+    let (fine, formed) = start .pre in
+    let put = c .before .before .before .put in (
+      behind-set fine (put .kept .0),
       record {
-        before = take (recordWords * (c .before .before .before .before .before .before .before) .args .top)
-            ((c .before .before .before .before .before .before .before) .args .table .now);
-        node
-            = bset ((c .before .before .before .before .before .before .before) .args .set);
-        proper = p .1;
-        stands = stands;
+        before = take (recordWords * start .args .top) (start .args .table .now);
+        part = bset (start .args .set);
+        ends = record { stands = set-stands formed (fine-room fine) (put .ensures); proper = formed };
       },
     )
 
@@ -38,12 +36,14 @@ same-length c = search needs
 
 returns : tie.Need-returns
 returns c =
-    let p = (c .before .before .before .before .before .before .before .before .before .before) .pre in
-    (c .before .before .quantified) .ensures .by
-    (take (recordWords * (c .before .before .before .before .before .before .before .before .before .before) .args .top)
-    ((c .before .before .before .before .before .before .before .before .before .before) .args .table .now))
-    (bset ((c .before .before .before .before .before .before .before .before .before .before) .args .set)) (p .1)
-    (set-stands (fine-room (p .0)) ((c .before .before .before .before .before .before .put) .ensures))
+    let start = c .before .before .before .before .before .before .before .before .before .before in
+    let (fine, formed) = start .pre in
+    c .before .before .quantified .ensures .by (take (recordWords * start .args .top) (start .args .table .now))
+    (bset (start .args .set))
+    (record {
+      stands = set-stands formed (fine-room fine) (c .before .before .before .before .before .before .put .ensures);
+      proper = formed;
+    })
 
 pub set-item-spec : {M : Type 1} → statement M
 set-item-spec =

@@ -10,8 +10,9 @@ returns : tie.Need-returns
 returns c = no-group ((c .if1) .taken)
 
 put-requires : tie.Need-put-requires
-put-requires c κs = group-putting ((c .before .before .before) .args .group) ((c .before .before .before) .pre .0)
-    ((c .before .before .before) .pre .1)
+put-requires c κs =
+    let start = c .before .before .before in
+    group-putting (start .args .group) (c .before .if1 .left) (start .pre .0) (start .pre .1)
 
 add-result : tie.Need-add-result
 add-result c = search needs

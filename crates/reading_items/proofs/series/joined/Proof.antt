@@ -1,4 +1,4 @@
-use Rattle.reading_items.proofs.Joining.{join-one, empty-putting, join-none, row-putting, join-row}
+use Rattle.reading_items.proofs.Joining.{join-one, empty-putting, join-none, series-putting, join-series}
 use borrow.Author.Needs.{needs}
 use Rattle.reading_items.proofs.series.joined.Statement.{statement}
 use Rattle.reading_items.proofs.series.joined.Tie as tie
@@ -22,7 +22,7 @@ returns-2 : tie.Need-returns-2
 returns-2 c = join-none ((c .before .before .before .before .if2) .taken) ((c .before .before .put) .ensures)
 
 put-requires-2 : tie.Need-put-requires-2
-put-requires-2 c κs = row-putting ((c .before .before .if1) .left) ((c .before .if2) .left)
+put-requires-2 c κs = series-putting ((c .before .before .if1) .left) ((c .before .if2) .left)
     ((c .before .before .before .before) .pre)
 
 add-result-2 : tie.Need-add-result-2
@@ -32,7 +32,7 @@ same-length-2 : tie.Need-same-length-2
 same-length-2 c = search needs
 
 returns-3 : tie.Need-returns-3
-returns-3 c = join-row ((c .before .before .before .before .before .if1) .left) ((c .before .before .before .before .if2) .left)
+returns-3 c = join-series ((c .before .before .before .before .before .if1) .left) ((c .before .before .before .before .if2) .left)
     ((c .before .before .put2) .ensures)
 
 pub joined-spec : {M : Type 1} → statement M
