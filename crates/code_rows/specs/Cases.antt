@@ -1,21 +1,22 @@
 -- What stands in a table where a pattern's records end: the words of its own record, and the parts inside it, from the last
 -- one back.
-use mathlib.Core.Path.{_≡_, refl, sym, ap, _∙_}
+use mathlib.Core.Path.{_≡_, refl, sym, ap, subst, _∙_}
 use mathlib.Core.Bool.{Bool, true, false}
 use mathlib.Core.Option.{Option, none, some}
 use mathlib.Core.List.{List, [], _∷_, _++_}
 use Prim.Native.Nat.{ℕ, _+_, _-_, _*_, _≤_, _<_}
 use native.Mathlib.Omega.{arith}
-use lib.Dec.{eqb}
-use lib.ListN.{length, take, drop}
-use borrow.Author.Tests.{eqb-false}
+use lib.ListN.{length, take, drop, getD}
 use Rattle.meaning.specs.Limits.{setWords}
 use Rattle.meaning.specs.Node.{Node, Node.empty, Node.bset, Node.assert, Node.group, Node.seq, Node.alt, Node.many, Within}
+use Rattle.meaning.specs.Node.{Proper}
 use Rattle.meaning.specs.Flat.{Kind, Kind.sequence, Kind.alternation, pair}
 use Rattle.table.specs.Table.{emptyKind, setKind, assertionKind, groupKind, sequenceKind, alternationKind, quantifierKind}
 use Rattle.table.specs.Table.{kindWord, operandWord, recordsWord, itemsWord, setWord, leastWord, mostWord, lazyWord}
 use Rattle.table.specs.Table.{recordWords, wordOf, maximum, bitOf}
-use Rattle.table.specs.Laws.{inner, kindOf}
+use Rattle.table.specs.Laws.{inner, operandOf, lastOf, of-kind}
+use Rattle.table.specs.Laws.{Kinded, Kinded.nothing, Kinded.set, Kinded.assertion, Kinded.grouped, Kinded.items, Kinded.choices}
+use Rattle.table.specs.Laws.{Kinded.quantified}
 use Rattle.table.specs.Stands.{Series}
 use Rattle.table.specs.Roots.{some-records, few-records, inside, root-kind, root-operand, root-records, root-items, root-last}
 use Rattle.table.specs.Roots.{root-set, some-last, last-ends, shorter}
@@ -86,86 +87,87 @@ pub record IsPair (k : Kind) (r : Node) : Type 0 where
   pub is : r ≡ pair k left right
 
 module _ {table : List ℕ} {top : ℕ} where
-  -- A part whose own record is of a kind is of no other.
-  other : {A : Type 0} {r : Node} (kind : ℕ) → Part table top r → eqb (kindOf r) kind ≡ false → wordOf table top kindWord ≡ kind
-      → A
-  other {r = r} kind p d e = absurd (eqb-false (kindOf r) kind d (sym (root-kind (p .ends)) ∙ e))
+  -- A part is what the kind of its own record says.
+  kind-said : {k : ℕ} {r : Node} → Part table top r → wordOf table top kindWord ≡ k → Kinded r k
+  kind-said {r = r} p e = of-kind r (sym (root-kind (p .ends)) ∙ e)
 
   pub is-set : (r : Node) → Part table top r → wordOf table top kindWord ≡ setKind
       → r ≡ bset (take setWords (drop (recordWords * (top - 1) + setWord) table))
-  is-set empty p e = other setKind p refl e
-  is-set (bset s) p e = ap bset (sym (root-set (p .ends)))
-  is-set (assert a) p e = other setKind p refl e
-  is-set (group k r) p e = other setKind p refl e
-  is-set (seq r q) p e = other setKind p refl e
-  is-set (alt r q) p e = other setKind p refl e
-  is-set (many n x lazy r) p e = other setKind p refl e
+  is-set r p e = go (kind-said p e)
+    where
+      go : Kinded r setKind → r ≡ bset (take setWords (drop (recordWords * (top - 1) + setWord) table))
+      go (set s f) = f ∙ ap bset (sym (root-set (p .ends) ∙ ap lastOf f))
 
-  pub is-assertion : (r : Node) → Part table top r → wordOf table top kindWord ≡ assertionKind → r ≡ assert (wordOf table top operandWord)
-  is-assertion empty p e = other assertionKind p refl e
-  is-assertion (bset s) p e = other assertionKind p refl e
-  is-assertion (assert a) p e = ap assert (sym (root-operand (p .ends)))
-  is-assertion (group k r) p e = other assertionKind p refl e
-  is-assertion (seq r q) p e = other assertionKind p refl e
-  is-assertion (alt r q) p e = other assertionKind p refl e
-  is-assertion (many n x lazy r) p e = other assertionKind p refl e
+  pub is-assertion : (r : Node) → Part table top r → wordOf table top kindWord ≡ assertionKind
+      → r ≡ assert (wordOf table top operandWord)
+  is-assertion r p e = go (kind-said p e)
+    where
+      go : Kinded r assertionKind → r ≡ assert (wordOf table top operandWord)
+      go (assertion a f) = f ∙ ap assert (sym (root-operand (p .ends) ∙ ap operandOf f))
 
   pub is-group : (r : Node) → Part table top r → wordOf table top kindWord ≡ groupKind → IsGroup table top r
   unfolding inner
-  is-group empty p e = other groupKind p refl e
-  is-group (bset s) p e = other groupKind p refl e
-  is-group (assert a) p e = other groupKind p refl e
-  is-group (group k r) p e = record { inside = r; is = ap (λ k. group k r) (sym (root-operand (p .ends))); part = only r (rest-of p) }
-  is-group (seq r q) p e = other groupKind p refl e
-  is-group (alt r q) p e = other groupKind p refl e
-  is-group (many n x lazy r) p e = other groupKind p refl e
+  is-group r p e = go (kind-said p e)
+    where
+      go : Kinded r groupKind → IsGroup table top r
+      go (grouped k q f) = record {
+        inside = q;
+        is = f ∙ ap (λ k. group k q) (sym (root-operand (p .ends) ∙ ap operandOf f));
+        part = only q (rw (ap inner f) at (rest-of p));
+      }
 
   pub is-sequence : (r : Node) → Part table top r → wordOf table top kindWord ≡ sequenceKind → IsPair sequence r
-  is-sequence empty p e = other sequenceKind p refl e
-  is-sequence (bset s) p e = other sequenceKind p refl e
-  is-sequence (assert a) p e = other sequenceKind p refl e
-  is-sequence (group k r) p e = other sequenceKind p refl e
-  is-sequence (seq r q) p e = record { left = r; right = q; is = refl }
-  is-sequence (alt r q) p e = other sequenceKind p refl e
-  is-sequence (many n x lazy r) p e = other sequenceKind p refl e
+  is-sequence r p e = go (kind-said p e)
+    where
+      go : Kinded r sequenceKind → IsPair sequence r
+      go (items a b f) = record { left = a; right = b; is = f }
 
   pub is-alternation : (r : Node) → Part table top r → wordOf table top kindWord ≡ alternationKind → IsPair alternation r
-  is-alternation empty p e = other alternationKind p refl e
-  is-alternation (bset s) p e = other alternationKind p refl e
-  is-alternation (assert a) p e = other alternationKind p refl e
-  is-alternation (group k r) p e = other alternationKind p refl e
-  is-alternation (seq r q) p e = other alternationKind p refl e
-  is-alternation (alt r q) p e = record { left = r; right = q; is = refl }
-  is-alternation (many n x lazy r) p e = other alternationKind p refl e
+  is-alternation r p e = go (kind-said p e)
+    where
+      go : Kinded r alternationKind → IsPair alternation r
+      go (choices a b f) = record { left = a; right = b; is = f }
 
   pub is-many : (r : Node) → Part table top r → wordOf table top kindWord ≡ quantifierKind → IsMany table top r
   unfolding inner
-  is-many empty p e = other quantifierKind p refl e
-  is-many (bset s) p e = other quantifierKind p refl e
-  is-many (assert a) p e = other quantifierKind p refl e
-  is-many (group k r) p e = other quantifierKind p refl e
-  is-many (seq r q) p e = other quantifierKind p refl e
-  is-many (alt r q) p e = other quantifierKind p refl e
-  is-many (many n x lazy r) p e =
-      let least : wordOf table top leastWord ≡ n = root-last (p .ends) 0 (omega arith) in
-      record {
-        extra = x;
-        lazy = lazy;
-        inside = r;
-        is = ap (λ n. many n x lazy r) (sym least);
-        most = root-last (p .ends) 1 (omega arith) ∙ ap (λ n. maximum n x) (sym least);
-        bit = root-last (p .ends) 2 (omega arith);
-        within = rw least (p .ends .proper .0);
-        part = only r (rest-of p);
-      }
+  is-many r p e = go (kind-said p e)
+    where
+      last : (i : ℕ) → i < setWords → {q : Node} → r ≡ q → wordOf table top (setWord + i) ≡ getD (lastOf q) i 0
+      last i h f = root-last (p .ends) i h ∙ ap (λ x. getD (lastOf x) i 0) f
 
-  pub is-empty : (r : Node) → Part table top r → (wordOf table top kindWord ≡ setKind → ⊥) → (wordOf table top kindWord ≡ assertionKind → ⊥)
-      → (wordOf table top kindWord ≡ groupKind → ⊥)
-      → (wordOf table top kindWord ≡ sequenceKind → ⊥) → (wordOf table top kindWord ≡ alternationKind → ⊥) → (wordOf table top kindWord ≡ quantifierKind → ⊥) → r ≡ empty
-  is-empty empty p h₂ h₃ h₄ h₅ h₆ h₇ = refl
-  is-empty (bset s) p h₂ h₃ h₄ h₅ h₆ h₇ = absurd (h₂ (root-kind (p .ends)))
-  is-empty (assert a) p h₂ h₃ h₄ h₅ h₆ h₇ = absurd (h₃ (root-kind (p .ends)))
-  is-empty (group k r) p h₂ h₃ h₄ h₅ h₆ h₇ = absurd (h₄ (root-kind (p .ends)))
-  is-empty (seq r q) p h₂ h₃ h₄ h₅ h₆ h₇ = absurd (h₅ (root-kind (p .ends)))
-  is-empty (alt r q) p h₂ h₃ h₄ h₅ h₆ h₇ = absurd (h₆ (root-kind (p .ends)))
-  is-empty (many n x lazy r) p h₂ h₃ h₄ h₅ h₆ h₇ = absurd (h₇ (root-kind (p .ends)))
+      go : Kinded r quantifierKind → IsMany table top r
+      go (quantified n x lazy q f) =
+          let least : wordOf table top leastWord ≡ n = last 0 (omega arith) f in
+          let proper : Proper (many n x lazy q) = subst Proper f (p .ends .proper) in
+          record {
+            extra = x;
+            lazy = lazy;
+            inside = q;
+            is = f ∙ ap (λ n. many n x lazy q) (sym least);
+            most = last 1 (omega arith) f ∙ ap (λ n. maximum n x) (sym least);
+            bit = last 2 (omega arith) f;
+            within = rw least (proper .0);
+            part = only q (rw (ap inner f) at (rest-of p));
+          }
+
+  pub is-empty : (r : Node) → Part table top r → wordOf table top kindWord ≡ emptyKind → r ≡ empty
+  is-empty r p e = go (kind-said p e)
+    where
+      go : Kinded r emptyKind → r ≡ empty
+      go (nothing f) = f
+
+  -- There is no other kind.
+  pub no-other : {A : Type 0} (r : Node) → Part table top r → (wordOf table top kindWord ≡ emptyKind → ⊥)
+      → (wordOf table top kindWord ≡ setKind → ⊥) → (wordOf table top kindWord ≡ assertionKind → ⊥)
+      → (wordOf table top kindWord ≡ groupKind → ⊥) → (wordOf table top kindWord ≡ sequenceKind → ⊥)
+      → (wordOf table top kindWord ≡ alternationKind → ⊥) → (wordOf table top kindWord ≡ quantifierKind → ⊥) → A
+  no-other r p h₁ h₂ h₃ h₄ h₅ h₆ h₇ = absurd (go (wordOf table top kindWord) refl (kind-said p refl))
+    where
+      go : (w : ℕ) → wordOf table top kindWord ≡ w → Kinded r w → ⊥
+      go w e (nothing f) = h₁ e
+      go w e (set s f) = h₂ e
+      go w e (assertion a f) = h₃ e
+      go w e (grouped k q f) = h₄ e
+      go w e (items a b f) = h₅ e
+      go w e (choices a b f) = h₆ e
+      go w e (quantified n x lazy q f) = h₇ e

@@ -31,6 +31,7 @@ use meaning::limits::ROW_WORDS;
 use table::ALTERNATION;
 use table::ASSERTION;
 use table::BYTE_SET;
+use table::EMPTY;
 use table::GROUP;
 use table::HIGHEST;
 use table::ITEMS;
@@ -50,7 +51,7 @@ use table::word;
 // The rows of a turn besides its part's: Fork, Begin, Reset, End.
 const TURN_ROWS: usize = 4;
 
-// The rows of the part whose records end at `top`, by its kind; an empty part has none.
+// The rows of the part whose records end at `top`, by its kind; an empty part has none, and there is no other kind.
 fn part(table: &[u32], top: usize, code: &mut [u32], end: usize) -> usize
     requires { ⌜ Asks sizeOf (now table) top (now code) end ⌝ }
     ensures { λ r. ⌜ Lays sizeOf rowsOf (now (table .entry)) top (now (code .entry)) (now (code .exit)) r end ⌝ }
@@ -62,6 +63,7 @@ fn part(table: &[u32], top: usize, code: &mut [u32], end: usize) -> usize
         SEQUENCE => sequence(table, top, code, end),
         ALTERNATION => alternation(table, top, code, end),
         QUANTIFIER => quantifier(table, top, code, end),
+        EMPTY => end,
         _ => end,
     }
 }

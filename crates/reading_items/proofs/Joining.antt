@@ -9,9 +9,10 @@ use Rattle.meaning.specs.Node.{Node, Node.empty, Node.bset, Node.assert, Node.g
 use Rattle.meaning.specs.Refusals as No
 use Rattle.meaning.specs.Flat.{Kind, Kind.sequence, Kind.alternation, Not, parts, link, join, parts-alone}
 use Rattle.meaning.specs.Results.{concatMap}
-use Rattle.table.specs.Table.{kindWord, itemsWord, emptyKind, noSet, recordWords, wordOf, recordCount, records}
+use Rattle.table.specs.Table.{kindWord, itemsWord, emptyKind, sequenceKind, alternationKind, noSet, recordWords, wordOf}
+use Rattle.table.specs.Table.{recordCount, records}
 use Rattle.meaning.specs.All.{All}
-use Rattle.table.specs.Laws.{inner, inner-link, proper-link, kindOf}
+use Rattle.table.specs.Laws.{inner, inner-link, proper-link, kindOf, of-kind, Kinded, Kinded.items, Kinded.choices}
 use Rattle.table.specs.Stands.{Stands, SomePart, Series, Made, Putting, Puts}
 use Rattle.table.specs.Roots.{some-records, few-records, root-kind, root-items, inside}
 use Rattle.reading_atoms.specs.Chars.{byteAt, closeParen}
@@ -28,20 +29,14 @@ use Rattle.reading_items.proofs.Putting.{made, putting}
 -- A pattern of the kind of a series holds the series's parts, and any other is not of that kind.
 kind-parts : (k : Kind) (r : Node) → kindOf r ≡ seriesKind k → inner r ≡ parts k r
 unfolding inner parts
-kind-parts sequence (seq r q) e = refl
-kind-parts alternation (alt r q) e = refl
-kind-parts sequence empty e = absurd (omega arith)
-kind-parts sequence (bset s) e = absurd (omega arith)
-kind-parts sequence (assert a) e = absurd (omega arith)
-kind-parts sequence (group n r) e = absurd (omega arith)
-kind-parts sequence (alt r q) e = absurd (omega arith)
-kind-parts sequence (many n x lazy r) e = absurd (omega arith)
-kind-parts alternation empty e = absurd (omega arith)
-kind-parts alternation (bset s) e = absurd (omega arith)
-kind-parts alternation (assert a) e = absurd (omega arith)
-kind-parts alternation (group n r) e = absurd (omega arith)
-kind-parts alternation (seq r q) e = absurd (omega arith)
-kind-parts alternation (many n x lazy r) e = absurd (omega arith)
+kind-parts sequence r e = go (of-kind r e)
+  where
+    go : Kinded r sequenceKind → inner r ≡ parts sequence r
+    go (items p q f) = rw f
+kind-parts alternation r e = go (of-kind r e)
+  where
+    go : Kinded r alternationKind → inner r ≡ parts alternation r
+    go (choices p q f) = rw f
 
 kind-not : (k : Kind) (r : Node) → (kindOf r ≡ seriesKind k → ⊥) → Not k r
 kind-not k empty f = tt

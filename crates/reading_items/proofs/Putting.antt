@@ -14,7 +14,8 @@ use Rattle.meaning.specs.Limits.{patternLimit, tableWords, lastAssertion, noMax
 use Rattle.meaning.specs.Node.{Node, Node.empty, Node.bset, Node.assert, Node.group, Node.many, Within, Proper}
 use Rattle.meaning.specs.Flat.{Kind, Kind.sequence, Kind.alternation, Not, parts, link, join}
 use Rattle.meaning.specs.Results.{concatMap}
-use Rattle.table.specs.Table.{assertionKind, setKind, groupKind, quantifierKind, noSet, recordWords, maximum, bitOf, recordCount, records}
+use Rattle.table.specs.Table.{assertionKind, setKind, groupKind, quantifierKind, noSet, recordWords, maximum, bitOf, recordCount}
+use Rattle.table.specs.Table.{records}
 use Rattle.meaning.specs.All.{All}
 use Rattle.table.specs.Laws.{inner, inner-link, kindOf, operandOf, lastOf}
 use Rattle.table.specs.Derived.{recordLimit}

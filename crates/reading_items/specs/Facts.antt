@@ -14,7 +14,8 @@ use Rattle.sets.specs.Sets.{Formed, setOf, isDot, inEscape}
 use Rattle.sets.specs.Laws.{setOf-holds}
 use Rattle.meaning.specs.Tests.{by-test}
 use Rattle.meaning.specs.Limits.{depthLimit, groupLimit, patternLimit, lastAssertion}
-use Rattle.meaning.specs.Node.{Node, Node.empty, Node.bset, Node.assert, Node.group, Node.seq, Node.alt, Node.many, Within, Proper}
+use Rattle.meaning.specs.Node.{Node, Node.empty, Node.bset, Node.assert, Node.group, Node.seq, Node.alt, Node.many, Within}
+use Rattle.meaning.specs.Node.{Proper}
 use Rattle.meaning.specs.Flat.{Kind, Kind.sequence, Kind.alternation, pair, Flat, parts, join, join-parts}
 use Rattle.meaning.specs.Numbering.{Numbers}
 use Rattle.table.specs.Table.{recordsIn, recordCount}

@@ -145,3 +145,8 @@ eight-words list at {set} w h room =
     ext-getD 0 set (take 8 (drop at list)) (w .eight ∙ sym long)
     (λ i l. w .at i (omega (arith, w .eight))
     ∙ sym (getD-take 8 (drop at list) i 0 (omega (arith, w .eight)) ∙ getD-drop at list i 0))
+
+-- Eight words are those that stand in them, one by one.
+pub one-by-one : (l : List ℕ) → length l ≡ 8
+    → getD l 0 0 ∷ getD l 1 0 ∷ getD l 2 0 ∷ getD l 3 0 ∷ getD l 4 0 ∷ getD l 5 0 ∷ getD l 6 0 ∷ getD l 7 0 ∷ [] ≡ l
+one-by-one l e = ext-getD 0 (tab (λ i. getD l i 0) 8) l (sym e) (λ i h. tab-at (λ i. getD l i 0) 8 i 0 h)

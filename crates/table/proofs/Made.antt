@@ -9,6 +9,7 @@ use lib.Dec.{lit≤}
 use lib.ListN.{length, take, drop, getD}
 use lib.Seq.{paste, take-paste, drop-paste, length-paste, take-all, ext-getD}
 use borrow.Author.Tests.{eq-eqb, ne-eqb}
+use Rattle.sets.specs.Laws.{one-by-one}
 use Rattle.sets.specs.Laws.{tab, tab-at}
 use Rattle.meaning.specs.Node.{Node, Node.empty, Node.bset, Node.assert, Node.group, Node.seq, Node.alt, Node.many, Proper, lo}
 use Rattle.meaning.specs.Node.{hi}
@@ -120,11 +121,6 @@ module _ {table : List ℕ} {top kind operand items least most : ℕ} where
         ∙ ap (closedOf kind operand items least most) (along .by before (inner r) (m .series)) ∙ closed-made h m;
   }
 
--- Eight words, one by one.
-eight-words : (l : List ℕ) → length l ≡ 8
-    → getD l 0 0 ∷ getD l 1 0 ∷ getD l 2 0 ∷ getD l 3 0 ∷ getD l 4 0 ∷ getD l 5 0 ∷ getD l 6 0 ∷ getD l 7 0 ∷ [] ≡ l
-eight-words l e = ext-getD 0 (tab (λ i. getD l i 0) 8) l (sym e) (λ i h. tab-at (λ i. getD l i 0) 8 i 0 h)
-
 words-same : {k k′ o o′ n n′ i i′ s s′ l l′ h h′ : ℕ} {x x′ : List ℕ} → k ≡ k′ → o ≡ o′ → n ≡ n′ → i ≡ i′ → s ≡ s′ → l ≡ l′
     → h ≡ h′ → x ≡ x′
     → k ∷ o ∷ n ∷ i ∷ s ∷ l ∷ h ∷ 0 ∷ x ≡ k′ ∷ o′ ∷ n′ ∷ i′ ∷ s′ ∷ l′ ∷ h′ ∷ 0 ∷ x′
@@ -147,7 +143,7 @@ put-on {table} {table′} {last} {top} {kind} {operand} {items} {d} room eight d
     let whole : table′ ≡ paste table (recordWords * top) words recordWords =
     e ∙ ap (λ l. paste table (recordWords * top)
     (kind ∷ operand ∷ d .records ∷ items ∷ d .size ∷ d .lowest ∷ d .highest ∷ 0 ∷ l) recordWords)
-    (eight-words last eight) in
+    (one-by-one last eight) in
     let long : recordWords ≤ length words = omega arith in
     let kept : length table′ ≡ length table = ap length whole
     ∙ length-paste table (recordWords * top) words recordWords (omega arith) long in

@@ -1,5 +1,6 @@
 -- Laws of the records of a pattern: they are the records of its parts, left to right, and then its own.
-use mathlib.Core.Path.{_≡_, refl, sym, ap, ap₂, _∙_}
+use mathlib.Core.Path.{_≡_, refl, sym, ap, ap₂, subst, _∙_}
+use mathlib.Core.Bool.{Bool}
 use mathlib.Core.Option.{Option, none, some}
 use mathlib.Core.List.{List, [], _∷_, _++_, append-assoc, append-nil}
 use Prim.Native.Nat.{ℕ, zero, suc, _+_, _*_, _≤_, _<_}
@@ -34,6 +35,28 @@ kindOf (group k r) = groupKind
 kindOf (seq r q) = sequenceKind
 kindOf (alt r q) = alternationKind
 kindOf (many n e lazy r) = quantifierKind
+
+-- What a pattern is, by the kind of its own record.
+pub data Kinded (r : Node) : ℕ → Type 0 where
+  nothing : r ≡ empty → Kinded r emptyKind
+  set : (s : List ℕ) → r ≡ bset s → Kinded r setKind
+  assertion : (a : ℕ) → r ≡ assert a → Kinded r assertionKind
+  grouped : (k : ℕ) (q : Node) → r ≡ group k q → Kinded r groupKind
+  items : (p q : Node) → r ≡ seq p q → Kinded r sequenceKind
+  choices : (p q : Node) → r ≡ alt p q → Kinded r alternationKind
+  quantified : (n : ℕ) (e : Option ℕ) (lazy : Bool) (q : Node) → r ≡ many n e lazy q → Kinded r quantifierKind
+
+kinded : (r : Node) → Kinded r (kindOf r)
+kinded empty = nothing refl
+kinded (bset s) = set s refl
+kinded (assert a) = assertion a refl
+kinded (group k r) = grouped k r refl
+kinded (seq r q) = items r q refl
+kinded (alt r q) = choices r q refl
+kinded (many n e lazy r) = quantified n e lazy r refl
+
+pub of-kind : {k : ℕ} (r : Node) → kindOf r ≡ k → Kinded r k
+of-kind r e = subst (Kinded r) e (kinded r)
 
 abbrev pub operandOf : Node → ℕ
 operandOf empty = 0

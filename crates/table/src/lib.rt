@@ -233,8 +233,8 @@ pub fn derive(
     }
 }
 
-// Sixteen words into the table from an index on.
-fn copy(table: &mut [u32], base: usize, words: &[u32; RECORD_WORDS])
+// The words of a record into the table from an index on.
+pub fn copy(table: &mut [u32], base: usize, words: &[u32; RECORD_WORDS])
     requires { ⌜ (base + recordWords ≤ length (now table)) × (length (now words) ≡ recordWords) ⌝ }
     ensures { λ _. ⌜ now (table .exit) ≡ paste (now (table .entry)) base (now (words .entry)) recordWords ⌝ }
 {

@@ -6,6 +6,7 @@ use native.Mathlib.Omega.{arith}
 use lib.ListN.{length, getD, take, drop, set, length-append, length-take, length-drop, length-set, take-append-drop}
 use lib.Seq.{paste, drop-paste, length-paste, take-at, take-take, length-take-le, take-set-le, drop-set-lt}
 use lib.Seq.{getD-set-same, getD-set-other, ext-getD}
+use Rattle.sets.specs.Laws.{one-by-one}
 use Rattle.sets.specs.Laws.{tab, tab-at}
 use Rattle.table.specs.Table.{recordWords}
 use Rattle.tidying_shapes.specs.Skeleton.{Token, tokenOf}
@@ -86,11 +87,6 @@ changed {table} {table′} {n} {at} {tok} l old m p s under over long e =
     rw append-assoc at (says-same (take-append-drop (recordWords * (at + 1)) table′) all
     (says-join (length-take-le (recordWords * (at + 1)) table′ (omega (arith, s .room))) upto rest))
 
--- Eight words, one by one.
-eight-words : (l : List ℕ) → length l ≡ 8
-    → getD l 0 0 ∷ getD l 1 0 ∷ getD l 2 0 ∷ getD l 3 0 ∷ getD l 4 0 ∷ getD l 5 0 ∷ getD l 6 0 ∷ getD l 7 0 ∷ [] ≡ l
-eight-words l e = ext-getD 0 (tab (λ i. getD l i 0) 8) l (sym e) (λ i h. tab-at (λ i. getD l i 0) 8 i 0 h)
-
 pub marked : {table table′ last : List ℕ} (at kind operand items : ℕ) → recordWords * (at + 1) ≤ length table → length last ≡ 8
     → table′ ≡ paste table (recordWords * at) (
     kind ∷ operand ∷ 0 ∷ items ∷ 0 ∷ 0 ∷ 0 ∷ 0 ∷ getD last 0 0 ∷ getD last 1 0 ∷ getD last 2 0 ∷ getD last 3 0 ∷ getD last 4 0
@@ -129,7 +125,7 @@ marked {table} {table′} {last} at kind operand items room eight e = record {
 
     here : tokenAt table′ at ≡ tokenOf kind operand items last
     here = rw regroup (token-right (take (recordWords * at) table) rest at 0 at base (omega arith))
-        ∙ token-same refl refl refl (eight-words last eight)
+        ∙ token-same refl refl refl (one-by-one last eight)
 
 -- One record that says another number of items.
 pub counted : {table table′ : List ℕ} (at items : ℕ) → recordWords * (at + 1) ≤ length table

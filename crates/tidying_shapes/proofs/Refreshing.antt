@@ -41,7 +41,7 @@ starts {table} {n} some = record {
       let all : n - 0 ≡ n = omega arith in
       record {
         stack = [];
-        rebuilt = rw (all, said .says .tokens) (rebuilds r (said .proper) (said .limited));
+        rebuilt = rw (all, said .says .tokens) (rebuilds r (said .proper));
         stands = record { below = refl; room = omega arith };
         proper = tt;
       };
@@ -71,23 +71,22 @@ module _ {table₀ : List ℕ} {n : ℕ} {table : List ℕ} {at : ℕ} {last : L
     made : Made table at (own .kind) (own .operand) (own .items) (getD last 0 0) (getD last 1 0)
         (concatMap records (closes .below)) (closes .part)
     made = record {
-      row = record {
+      series = record {
         stands = rw records-append at (rw (closes .inside) at (p .by r said .stands));
         counted = ap (λ t. t .items) (closes .says);
         proper = all-right Proper (closes .below) (inner (closes .part)) (rw (closes .inside) at (p .by r said .proper));
-        low = omega (arith, p .few);
       };
       same-kind = ap (λ t. t .kind) (closes .says);
       same-operand = ap (λ t. t .operand) (closes .says);
       same-least = ap (λ l. getD l 0 0) last-of;
       same-most = ap (λ l. getD l 1 0) last-of;
-      limited = closes .limited;
+      proper = closes .proper;
     }
 
   pub putting : SomeSaid table₀ n
       → Putting table at (own .kind) (own .operand) (own .items) last
   putting some = record {
-    some = record { before = _; node = _; made = made (some .node) (some .said) };
+    some = record { before = _; node = _; made = made (some .node) (some .said); low = omega (arith, p .few) };
     eight = rw same (length-take-le 8 (drop (recordWords * at + 8) table)
         (omega (arith, length-drop (recordWords * at + 8) table, p .kept, p .room)));
     room = omega (arith, p .kept, p .room);

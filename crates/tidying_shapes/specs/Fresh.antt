@@ -9,13 +9,11 @@ use Rattle.table.specs.Derived.{recordLimit}
 use Rattle.table.specs.Stands.{Stands}
 use Rattle.tidying_shapes.specs.Skeleton.{skeleton}
 use Rattle.tidying_shapes.specs.Tokens.{Says}
-use Rattle.tidying_shapes.specs.Parse.{LimitedAll}
 
 -- The first n records say the tokens of a pattern that a table can hold.
 pub record Said (table : List ℕ) (n : ℕ) (r : Node) : Type 0 where
   pub says : Says table n (skeleton r)
   pub proper : Proper r
-  pub limited : LimitedAll r
   pub few : n ≤ recordLimit
 
 pub record SomeSaid (table : List ℕ) (n : ℕ) : Type 0 where

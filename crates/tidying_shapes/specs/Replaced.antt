@@ -16,7 +16,7 @@ use Rattle.tidying_shapes.specs.Skeleton.{Token, token, rowToken, skelet
 use Rattle.tidying_shapes.specs.Spots.{Parent, Parent.top, Parent.alone, Parent.among, rowOf, behind, Spot}
 use Rattle.tidying_shapes.specs.Placed.{Spots}
 use Rattle.tidying_shapes.specs.Tokens.{Says}
-use Rattle.tidying_shapes.specs.Parse.{LimitedAll, rebuilds, rebuilds-few}
+use Rattle.tidying_shapes.specs.Parse.{rebuilds, rebuilds-few}
 use Rattle.tidying_shapes.specs.Told.{skeleton-count}
 use Rattle.tidying_shapes.specs.Settling.{itemsOf, Unsettled, Settled}
 
@@ -51,9 +51,9 @@ module _ {r : Node} {p : Place} {i : ℕ} (s : Spot none r p i) where
   )
 
   -- The record of the parent then has no more items than there are records.
-  pub spot-few : (y : Node) → Proper (p .put y) → LimitedAll (p .put y)
+  pub spot-few : (y : Node) → Proper (p .put y)
       → itemsOf (s .parent) (width (rowOf (s .parent)) y) ≤ recordCount (p .put y)
-  spot-few y proper limited = rw (sym (skeleton-count (p .put y) proper)) (go (s .parent) (s .put y))
+  spot-few y proper = rw (sym (skeleton-count (p .put y) proper)) (go (s .parent) (s .put y))
     where
       go : (P : Parent none)
           → skeleton (p .put y) ≡ concatMap skeleton (s .earlier) ++ (skeletonIn (rowOf P) y ++ behind P (width (rowOf P) y))
@@ -69,17 +69,17 @@ module _ {r : Node} {p : Place} {i : ℕ} (s : Spot none r p i) where
           let first : List Token = concatMap skeleton (s .earlier) ++ (skeletonIn (some k) y ++ concatMap skeleton later) in
           let tokens : skeleton (p .put y) ≡ first ++ (own ∷ rest) = e ∙ simp append-assoc in
           let few : own .items ≤ 0 + length first
-          = rebuilds-few first own rest [] (p .put y ∷ []) (rw tokens at (rebuilds (p .put y) proper limited)) in
+          = rebuilds-few first own rest [] (p .put y ∷ []) (rw tokens at (rebuilds (p .put y) proper)) in
           omega (arith, ap length tokens, length-append first (own ∷ rest))
 
   -- With the tokens of another part in the place of the part's, that part settles, and the tokens are those of what is put.
   module _ {table : List ℕ} {n root : ℕ} (y : Node) where
     pub spot-unsettled : Says table n (concatMap skeleton (s .earlier) ++ (skeleton y ++ behind (s .parent) 1))
         → length (concatMap skeleton (s .earlier)) + length (skeleton y) ≡ suc root
-        → Proper (p .put y) → LimitedAll (p .put y) → recordCount (p .put y) ≤ recordLimit
+        → Proper (p .put y) → recordCount (p .put y) ≤ recordLimit
         → Unsettled table n root (concatMap skeleton (s .earlier)) y (s .parent)
-    spot-unsettled says here proper limited small =
-        record { says = says; sound = s .sound; here = here; few = omega (arith, spot-few y proper limited) }
+    spot-unsettled says here proper small =
+        record { says = says; sound = s .sound; here = here; few = omega (arith, spot-few y proper) }
 
     pub spot-settled : {table′ : List ℕ} {n′ : ℕ} → Unsettled table n root (concatMap skeleton (s .earlier)) y (s .parent)
         → Settled table table′ n root n′ → Says table′ n′ (skeleton (p .put y))

@@ -15,7 +15,7 @@ use Rattle.table.specs.Roots.{stands-long}
 use Rattle.tidying_shapes.specs.Skeleton.{Token, token, skeletonIn, skeleton}
 use Rattle.tidying_shapes.specs.Tokens.{tokenAt, Says}
 use Rattle.tidying_shapes.specs.Laws.{token-same, says-length, says-join, says-only, says-same}
-use Rattle.tidying_shapes.specs.Parse.{LimitedAll, skeleton-injective}
+use Rattle.tidying_shapes.specs.Parse.{skeleton-injective}
 
 -- Words that are whole records, and say these tokens.
 record Told (words : List ℕ) (n : ℕ) (ts : List Token) : Type 0 where
@@ -55,12 +55,12 @@ unfolding wordsIn recordsIn skeletonIn
 told t empty p = told-own empty p
 told t (bset s) p = told-own (bset s) p
 told t (assert a) p = told-own (assert a) p
-told t (group k r) p = told-append (told none r p) (told-own (group k r) p)
+told t (group k r) p = told-append (told none r (p .1)) (told-own (group k r) p)
 told t (seq r q) p =
     told-append (told-append (told none r (p .0)) (told (some sequence) q (p .1))) (told-unless t sequence (seq r q) p)
 told t (alt r q) p =
     told-append (told-append (told none r (p .0)) (told (some alternation) q (p .1))) (told-unless t alternation (alt r q) p)
-told t (many n e lazy r) p = told-append (told none r p) (told-own (many n e lazy r) p)
+told t (many n e lazy r) p = told-append (told none r (p .1)) (told-own (many n e lazy r) p)
 
 -- The records of a pattern say its tokens, one each.
 pub records-say : (r : Node) → Proper r → Says (records r) (recordCount r) (skeleton r)
@@ -79,7 +79,7 @@ stands-say {table} {n} r p h =
     (h .below ∙ sym (take-all (recordWords * n) (records r) (omega (arith, stands-long h))))
 
 -- Equal records are those of one pattern.
-pub records-injective : (r q : Node) → Proper r → LimitedAll r → Proper q → LimitedAll q → records r ≡ records q → r ≡ q
-records-injective r q p m p′ m′ e =
+pub records-injective : (r q : Node) → Proper r → Proper q → records r ≡ records q → r ≡ q
+records-injective r q p p′ e =
     let count : recordCount r ≡ recordCount q = omega (arith, told none r p .long, told none q p′ .long, ap length e) in
-    skeleton-injective r q p m p′ m′ (sym (says-same e count (records-say r p) .tokens) ∙ records-say q p′ .tokens)
+    skeleton-injective r q p p′ (sym (says-same e count (records-say r p) .tokens) ∙ records-say q p′ .tokens)

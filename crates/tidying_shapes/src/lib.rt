@@ -2,8 +2,7 @@
 // token; the words that are derived of its parts are stale after an edit, and one pass writes them anew.
 ghost use mathlib.Core.Path.{_≡_};
 ghost use Prim.Native.Nat.{_+_, _-_, _*_, _<_, _≤_};
-ghost use lib.ListN.{length, take, drop};
-ghost use lib.Seq.{paste};
+ghost use lib.ListN.{length};
 ghost use Rattle.table.specs.Table.{recordWords};
 ghost use Rattle.tidying_shapes.specs.Skeleton.{tokenOf};
 ghost use Rattle.tidying_shapes.specs.Edits.{Removed, Inserted, Marked, Counted};
@@ -14,7 +13,6 @@ use table::ITEMS;
 use table::OPERAND;
 use table::RECORD_WORDS;
 use table::SEQUENCE;
-use table::SET;
 
 // The `count` records from `at` on go: the words behind them move down.
 pub fn remove(table: &mut [u32], n: usize, at: usize, count: usize)
@@ -45,18 +43,6 @@ pub fn insert(table: &mut [u32], n: usize, at: usize)
     }
 }
 
-// Sixteen words into the table from an index on.
-fn copy(table: &mut [u32], base: usize, words: &[u32; RECORD_WORDS])
-    requires { ⌜ (base + recordWords ≤ length (now table)) × (length (now words) ≡ recordWords) ⌝ }
-    ensures { λ _. ⌜ now (table .exit) ≡ paste (now (table .entry)) base (now (words .entry)) recordWords ⌝ }
-{
-    let mut k: usize = 0;
-    while k < RECORD_WORDS {
-        table[base + k] = words[k];
-        k += 1;
-    }
-}
-
 // The record at `at` becomes one of this kind, operand, number of items and last eight words.
 pub fn mark(table: &mut [u32], at: usize, kind: u32, operand: u32, items: u32, last: [u32; 8])
     requires { ⌜ (recordWords * (at + 1) ≤ length (now table)) × (length last ≡ 8) ⌝ }
@@ -80,7 +66,7 @@ pub fn mark(table: &mut [u32], at: usize, kind: u32, operand: u32, items: u32, l
         last[6],
         last[7],
     ];
-    copy(table, RECORD_WORDS * at, &words);
+    table::copy(table, RECORD_WORDS * at, &words);
 }
 
 // The record at `at` says that it has so many items.
@@ -136,20 +122,6 @@ pub fn settle(table: &mut [u32], n: usize, root: usize) -> usize
     n - 1
 }
 
-// The last eight words of a record.
-pub fn last_words(table: &[u32], at: usize) -> [u32; 8]
-    requires { ⌜ recordWords * (at + 1) ≤ length (now table) ⌝ }
-    ensures { λ r. ⌜ r ≡ take 8 (drop (recordWords * at + 8) (now (table .entry))) ⌝ }
-{
-    let mut last = [0u32; 8];
-    let mut k: usize = 0;
-    while k < 8 {
-        last[k] = table[RECORD_WORDS * at + SET + k];
-        k += 1;
-    }
-    last
-}
-
 // The derived words of every record, written anew from left to right: a record stands on those of its parts, which are written.
 pub fn refresh(table: &mut [u32], n: usize)
     requires { ⌜ SomeSaid (now table) n ⌝ }
@@ -160,7 +132,7 @@ pub fn refresh(table: &mut [u32], n: usize)
         let kind = table[RECORD_WORDS * at];
         let operand = table[RECORD_WORDS * at + OPERAND];
         let items = table[RECORD_WORDS * at + ITEMS];
-        let last = last_words(table, at);
+        let last = table::last_words(table, at + 1);
         table::put(table, at, kind, operand, items, last);
         at += 1;
     }

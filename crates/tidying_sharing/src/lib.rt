@@ -15,7 +15,6 @@ use tidying_fitting::series::leftmost;
 use tidying_fitting::start;
 use tidying_rewriting::close;
 use tidying_shapes::insert;
-use tidying_shapes::last_words;
 use tidying_shapes::mark;
 use tidying_shapes::remove;
 use tidying_shapes::set_items;
@@ -174,7 +173,7 @@ pub fn share(table: &mut [u32], n: usize, part: usize) -> usize
     let run = find(table, part);
     let from = run.from;
     let stop = run.stop;
-    let set = last_words(table, from);
+    let set = table::last_words(table, from + 1);
     let left = shorten(table, n, from, stop);
     let count = close(table, left.n, part + left.n - n, items - left.trimmed + 1);
     wrap(table, count, from, stop + left.n - n, left.parts, set)

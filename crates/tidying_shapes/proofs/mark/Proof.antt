@@ -4,7 +4,7 @@ use Rattle.tidying_shapes.proofs.mark.Statement.{statement}
 use Rattle.tidying_shapes.proofs.mark.Tie as tie
 use Rattle.tidying_shapes.proofs.mark.Reads as reads
 use Rattle.tidying_shapes.proofs.mark.Lts as lts
-use Rattle.tidying_shapes.proofs.copy.Reads as copy-reads
+use Rattle.table.proofs.copy.Reads as copy-reads
 
 array-read-t11 : tie.Need-array-read-t11
 array-read-t11 c = search needs

@@ -1,6 +1,12 @@
 -- Below the record that the pass has come to the parts stand whole; from there on the tokens are as they were. Assumes nothing.
+use mathlib.Core.Path.{_≡_, ap, _∙_}
+use mathlib.Core.List.{List}
+use Prim.Native.Nat.{ℕ, _+_, _-_, _*_}
+use native.Mathlib.Omega.{arith}
 use borrow.Author.Needs.{needs}
-use Prim.Native.Nat.{_-_}
+use lib.ListN.{take, drop}
+use Rattle.meaning.specs.Limits.{setWords}
+use Rattle.table.specs.Table.{recordWords, setWord}
 use Rattle.tidying_shapes.proofs.Refreshing.{Passing, starts, putting, passes, refreshed}
 use Rattle.tidying_shapes.proofs.refresh.Statement.{statement}
 use Rattle.tidying_shapes.proofs.refresh.Tie as tie
@@ -11,66 +17,29 @@ Inv-loop table₀ n at₀ table at = Passing table₀ n table at
 abbrev μ-loop : tie.MeasureT-loop
 μ-loop table₀ n at₀ table at = n - at
 
+-- The last words of record `at`.
+here : (table last : List ℕ) (at : ℕ) → last ≡ take setWords (drop (recordWords * (at + 1 - 1) + setWord) table)
+    → last ≡ take setWords (drop (recordWords * at + setWord) table)
+here table last at e = let same : at + 1 - 1 ≡ at = omega arith in rw same at e
+
 loop-holds : tie.Need-loop-holds Inv-loop μ-loop
 loop-holds c = starts (c .before .pre)
-
-mul-kind : tie.Need-mul-kind Inv-loop μ-loop
-mul-kind c = search needs
-
-mul-kind-2 : tie.Need-mul-kind-2 Inv-loop μ-loop
-mul-kind-2 c = search needs
-
-slice-read-kind : tie.Need-slice-read-kind Inv-loop μ-loop
-slice-read-kind c = search needs
-
-mul-operand : tie.Need-mul-operand Inv-loop μ-loop
-mul-operand c = search needs
-
-add-operand : tie.Need-add-operand Inv-loop μ-loop
-add-operand c = search needs
-
-mul-operand-2 : tie.Need-mul-operand-2 Inv-loop μ-loop
-mul-operand-2 c = search needs
-
-slice-read-operand : tie.Need-slice-read-operand Inv-loop μ-loop
-slice-read-operand c = search needs
-
-mul-items : tie.Need-mul-items Inv-loop μ-loop
-mul-items c = search needs
-
-add-items : tie.Need-add-items Inv-loop μ-loop
-add-items c = search needs
-
-mul-items-2 : tie.Need-mul-items-2 Inv-loop μ-loop
-mul-items-2 c = search needs
-
-slice-read-items : tie.Need-slice-read-items Inv-loop μ-loop
-slice-read-items c = search needs
-
-last-words-requires : tie.Need-last-words-requires Inv-loop μ-loop
-last-words-requires c κs = search needs
 
 put-requires : tie.Need-put-requires Inv-loop μ-loop
 put-requires c κs =
     let turn = c .before .before .before .before .before .before in
-    putting (turn .before .loop .inv) (turn .loop-test .taken) (c .before .last-words .ensures)
+    let loop = turn .before .loop in
+    putting (loop .inv) (turn .loop-test .taken) (here (loop .table) _ (loop .at) (c .before .last-words .ensures))
     (turn .before .before .before .pre)
-
-add-at : tie.Need-add-at Inv-loop μ-loop
-add-at c = search needs
-
-loop-less : tie.Need-loop-less Inv-loop μ-loop
-loop-less c = search needs
 
 loop-again : tie.Need-loop-again Inv-loop μ-loop
 loop-again c =
     let put = c .before .before .put in
     let turn = c .before .before .before .before .before .before .before .before .before in
-    passes (turn .before .loop .inv) (turn .loop-test .taken) (c .before .before .before .before .last-words .ensures)
+    let loop = turn .before .loop in
+    passes (loop .inv) (turn .loop-test .taken)
+    (here (loop .table) _ (loop .at) (c .before .before .before .before .last-words .ensures))
     (put .kept .0) (put .ensures)
-
-same-length : tie.Need-same-length Inv-loop μ-loop
-same-length c = search needs
 
 returns : tie.Need-returns Inv-loop μ-loop
 returns c = refreshed (c .before .loop .inv) (c .loop-test .left)
@@ -78,25 +47,7 @@ returns c = refreshed (c .before .loop .inv) (c .loop-test .left)
 pub refresh-spec : {M : Type 1} → statement M
 refresh-spec =
     tie.close
-    (tie.spec
-    Inv-loop
-    μ-loop
-    loop-holds
-    mul-kind
-    mul-kind-2
-    slice-read-kind
-    mul-operand
-    add-operand
-    mul-operand-2
-    slice-read-operand
-    mul-items
-    add-items
-    mul-items-2
-    slice-read-items
-    last-words-requires
-    put-requires
-    add-at
-    loop-less
-    loop-again
-    same-length
-    returns)
+    (tie.spec Inv-loop μ-loop loop-holds (λ c. search needs) (λ c. search needs) (λ c. search needs) (λ c. search needs)
+    (λ c. search needs) (λ c. search needs) (λ c. search needs) (λ c. search needs) (λ c. search needs) (λ c. search needs)
+    (λ c. search needs) (λ c. search needs) (λ c κs. search needs) put-requires (λ c. search needs) (λ c. search needs)
+    loop-again (λ c. search needs) returns)

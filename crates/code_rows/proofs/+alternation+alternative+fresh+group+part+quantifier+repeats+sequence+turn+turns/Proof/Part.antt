@@ -2,9 +2,10 @@
 use mathlib.Core.Path.{_≡_, refl, sym, ap, _∙_}
 use mathlib.Core.List.{_∷_}
 use Prim.Native.Nat.{ℕ, _+_, _≤_}
+use Rattle.machine.specs.Kinds.{consumeKind, assertKind}
 use Rattle.machine.specs.Words.{plainWords}
 use Rattle.code_words.specs.Wrote.{wrote-as}
-use Rattle.code_rows.specs.Cases.{part-some, is-set, is-assertion, is-empty}
+use Rattle.code_rows.specs.Cases.{part-some, is-set, is-assertion, is-empty, no-other}
 use Rattle.code_rows.specs.Shapes.{wrote-empty, wrote-set, wrote-assertion}
 use Rattle.code_rows.specs.Asking.{word-there, row-first, wrote-of, one-set, one-assertion}
 use borrow.Author.Needs.{needs}
@@ -90,7 +91,7 @@ module _ (t : ℕ) where
       let word = c5 .before .before .word in
       record {
         by = λ r p h.
-            let words = consuming .ensures ∙ ap (λ l. 2 ∷ 0 ∷ 0 ∷ 0 ∷ l) (last-words .ensures) in
+            let words = consuming .ensures ∙ ap (λ l. consumeKind ∷ 0 ∷ 0 ∷ 0 ∷ l) (last-words .ensures) in
             wrote-of (is-set r p (sym (word .ensures) ∙ kinds .keys1)) (wrote-set _ (wrote-as (put-before .ensures) refl words));
       }
 
@@ -106,7 +107,7 @@ module _ (t : ℕ) where
       let word = c5 .before .word in
       record {
         by = λ r p h.
-            let words = ap (λ a. plainWords 10 a 0) (word2 .ensures) in
+            let words = ap (λ a. plainWords assertKind a 0) (word2 .ensures) in
             wrote-of (is-assertion r p (sym (word .ensures) ∙ kinds .keys2))
             (wrote-assertion _ (wrote-as (row-before .ensures) refl words));
       }
@@ -144,12 +145,13 @@ module _ (t : ℕ) where
       quantifier .ensures
 
   pub returns-7 : lts.Need-returns-7 (calls t) (asked t) reads.Post
-  returns-7 c =
-      let n = (c .match) .rest in
-      let k = (c .before .word) .ensures in
+  returns-7 c = record { by = λ r p h. wrote-of (is-empty r p (sym (c .before .word .ensures) ∙ c .match .keys7)) wrote-empty }
+
+  pub returns-8 : lts.Need-returns-8 (calls t) (asked t) reads.Post
+  returns-8 c =
+      let n = c .match .rest in
+      let k = c .before .word .ensures in
       record {
-        by = λ r p h.
-            let e = is-empty r p (λ e. n .0 .0 .0 .0 .0 .1 (k ∙ e)) (λ e. n .0 .0 .0 .0 .1 (k ∙ e)) (λ e. n .0 .0 .0 .1 (k ∙ e))
-            (λ e. n .0 .0 .1 (k ∙ e)) (λ e. n .0 .1 (k ∙ e)) (λ e. n .1 (k ∙ e)) in
-            wrote-of e wrote-empty;
+        by = λ r p h. no-other r p (λ e. n .1 (k ∙ e)) (λ e. n .0 .0 .0 .0 .0 .0 .1 (k ∙ e)) (λ e. n .0 .0 .0 .0 .0 .1 (k ∙ e))
+            (λ e. n .0 .0 .0 .0 .1 (k ∙ e)) (λ e. n .0 .0 .0 .1 (k ∙ e)) (λ e. n .0 .0 .1 (k ∙ e)) (λ e. n .0 .1 (k ∙ e));
       }
