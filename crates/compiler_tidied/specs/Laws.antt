@@ -20,7 +20,7 @@ use Rattle.table.specs.declared.Derived.{Derived}
 use Rattle.tidying_laws.specs.Around.{Around, fill}
 use Rattle.tidying_laws.specs.Kept.{Each}
 use Rattle.tidying_laws.specs.Within.{Stands}
-use Rattle.tidying_laws.specs.Words.{words}
+use Rattle.tidying_laws.specs.List.{words}
 use Rattle.tidying_laws.specs.Tidier.{tidy}
 use Rattle.tidying_laws.specs.Tidy.{tidy-rows, tidy-numbers, tidy-proper, tidy-clean}
 use Rattle.tidying_shapes.specs.Parse.{LimitedAll}

@@ -22,7 +22,7 @@ use Rattle.tidying_laws.specs.Around.{Around, fill}
 use Rattle.tidying_laws.specs.Kept.{Each}
 use Rattle.tidying_laws.specs.Void.{fair}
 use Rattle.tidying_laws.specs.Within.{Stands}
-use Rattle.tidying_laws.specs.Words.{words}
+use Rattle.tidying_laws.specs.List.{words}
 use Rattle.tidying_laws.specs.Tidier.{tidy}
 use Rattle.tidying_laws.specs.Tidy.{tidy-alike, tidy-numbers, tidy-proper, tidy-rows, tidy-match, tidy-search}
 use Rattle.reading_items.specs.Facts.{fair-proper}

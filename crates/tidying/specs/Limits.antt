@@ -19,9 +19,11 @@ use Rattle.tidying_laws.specs.Equal.{same}
 use Rattle.tidying_laws.specs.Laws.{when, onParts, onAlternatives, onMany, onAssert, counts, isEmpty, filled, distinct, isVoid}
 use Rattle.tidying_laws.specs.Laws.{possible}
 use Rattle.tidying_laws.specs.Laws.{impossible, firstSet, restOf, extend, run, glues, shared, sharedAt, share}
-use Rattle.tidying_laws.specs.Laws.{t1, t2, t3, t4, t5, t6, t7, t8, t9, laws}
+use Rattle.tidying_laws.specs.List.{laws}
+use Rattle.tidying_laws.specs.Laws.{t1, t2, t3, t4, t5, t6, t7, t8, t9}
 use Rattle.tidying_laws.specs.Tidier.{Place, itself, inside, whole, places, lowest, found, tidyStep}
-use Rattle.tidying_laws.specs.Kept.{Ok, ok-test, ok-when, ok-else, ok-map, ok-two, ok-first, Each, each-map, each-append}
+use Rattle.tidying_laws.specs.Found.{ok-first}
+use Rattle.tidying_laws.specs.Kept.{Ok, ok-test, ok-when, ok-else, ok-map, ok-two, Each, each-map, each-append}
 use Rattle.tidying_laws.specs.Kept.{each-imp}
 
 pub limited-spreads : (k : Kind) → Spreads k LimitedAll LimitedAll

@@ -10,7 +10,7 @@ use lib.ListN.{length, drop}
 use lib.Seq.{drop-cons, drop-length}
 use Rattle.meaning.specs.Node.{Node, Node.empty}
 use Rattle.meaning.specs.Results.{orElse}
-use Rattle.tidying_laws.specs.Laws.{laws}
+use Rattle.tidying_laws.specs.List.{laws}
 use Rattle.tidying_laws.specs.Tidier.{Place, itself, places, firstAt, lowest, found}
 use Rattle.tidying_fitting.specs.Fitting.{isSome, lawOf, lawCount, fits}
 use Rattle.tidying_fitting.specs.Parts.{SomePart, Tells}

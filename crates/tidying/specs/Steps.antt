@@ -13,7 +13,7 @@ use Rattle.meaning.specs.Results.{concatMap}
 use Rattle.table.specs.Table.{recordWords}
 use Rattle.table.specs.Laws.{inner}
 use Rattle.tidying_laws.specs.Charge.{records-bound}
-use Rattle.tidying_laws.specs.Laws.{laws}
+use Rattle.tidying_laws.specs.List.{laws}
 use Rattle.tidying_laws.specs.Tidier.{Place, itself, places, lowest, found, tidyStep}
 use Rattle.tidying_laws.specs.Found.{First, first-at, places-records}
 use Rattle.tidying_laws.specs.Tidy.{Step, step}

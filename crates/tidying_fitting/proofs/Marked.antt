@@ -14,7 +14,8 @@ use Rattle.table.specs.Table.{recordCount}
 use Rattle.table.specs.Laws.{inner, kindOf}
 use Rattle.tidying_laws.specs.Groups.{groupFree}
 use Rattle.tidying_laws.specs.Alternatives.{past}
-use Rattle.tidying_laws.specs.Laws.{isEmpty, laws}
+use Rattle.tidying_laws.specs.List.{laws}
+use Rattle.tidying_laws.specs.Laws.{isEmpty}
 use Rattle.tidying_fitting.specs.Fitting.{isSome, lawCount, lawOf, fits}
 use Rattle.tidying_fitting.specs.Parts.{Sound, Ends, Tells, TellsLast, last-ends}
 use Rattle.tidying_fitting.specs.Words.{ownOf, free-highest, empty-kind}

@@ -17,7 +17,8 @@ use Rattle.tidying_laws.specs.Equal.{same, same-refl}
 use Rattle.tidying_laws.specs.Void.{void}
 use Rattle.tidying_laws.specs.Laws.{when, two, onParts, isEmpty, filled, byteSet, isVoid}
 use Rattle.tidying_laws.specs.Laws.{firstSet, restOf, Run, extend, run, shared, sharedAt}
-use Rattle.tidying_laws.specs.Laws.{distinct, possible, share, laws, t1, t6, t7, t8}
+use Rattle.tidying_laws.specs.List.{laws}
+use Rattle.tidying_laws.specs.Laws.{distinct, possible, share, t1, t6, t7, t8}
 use Rattle.tidying_fitting.specs.Fitting.{isSome, lawOf, fits}
 use Rattle.tidying_fitting.specs.Parts.{Sound}
 use Rattle.tidying_fitting.specs.Words.{free-highest, when-some}

@@ -18,7 +18,8 @@ use Rattle.table.specs.Derived.{Limited}
 use Rattle.tidying_laws.specs.Groups.{groups, Positive, positive-both, groupFree, free-groups, same-high}
 use Rattle.tidying_laws.specs.Equal.{same, same-eq, same-refl}
 use Rattle.tidying_laws.specs.Quantified.{absorbed}
-use Rattle.tidying_laws.specs.Laws.{when, sameMore, counts, isEmpty, onAssert, onMany, laws, t1, t2, t3, t4, t5, t6, t7, t8, t9}
+use Rattle.tidying_laws.specs.List.{laws}
+use Rattle.tidying_laws.specs.Laws.{when, sameMore, counts, isEmpty, onAssert, onMany, t1, t2, t3, t4, t5, t6, t7, t8, t9}
 use Rattle.tidying_fitting.specs.Fitting.{isSome, lawOf, fits}
 use Rattle.tidying_fitting.specs.Parts.{Sound}
 use Rattle.tidying_fitting.specs.declared.Record.{Record}

@@ -1,8 +1,8 @@
 -- The search for a law: what its first place and lowest law are, when it finds none, and that places are records.
-use mathlib.Core.Path.{_≡_, refl, ap, _∙_}
-use mathlib.Core.Option.{Option, none, some, Option·map, map-eq-none-iff}
+use mathlib.Core.Path.{_≡_, refl, ap, subst, _∙_}
+use mathlib.Core.Option.{Option, none, some, Option·map, IsSome, map-eq-none-iff}
 use mathlib.Core.Option.{Option·none-ne-some, Option·some-ne-none, Option·some-injective}
-use mathlib.Core.List.{List, [], _∷_, _++_}
+use mathlib.Core.List.{List, [], _∷_, _++_, map}
 use Prim.Native.Nat.{ℕ, suc, _+_}
 use native.Mathlib.Omega.{arith}
 use lib.ListN.{length, length-append, length-map}
@@ -10,9 +10,9 @@ use Rattle.meaning.specs.Node.{Node, Node.empty, Node.bset, Node.assert, Node.g
 use Rattle.meaning.specs.Results.{orElse}
 use Rattle.meaning.specs.Flat.{Kind, Kind.sequence, Kind.alternation, Not, pair}
 use Rattle.tidying_laws.specs.Charge.{isPair, not-pair, records}
-use Rattle.tidying_laws.specs.Laws.{laws}
+use Rattle.tidying_laws.specs.List.{Law, list, laws, words}
 use Rattle.tidying_laws.specs.Tidier.{whole, places, firstAt, lowest, found, tidyStep}
-use Rattle.tidying_laws.specs.Kept.{Each, each-imp}
+use Rattle.tidying_laws.specs.Kept.{Ok, ok-else, ok-map, Each, each-imp}
 
 -- What stands at the number found, and that nothing before it succeeds.
 pub record First {A B : Type 0} (c : A → Option B) (n : ℕ) (l : List A) (i : ℕ) (b : B) : Type 0 where
@@ -74,6 +74,13 @@ none-first : {A B : Type 0} (c : A → Option B) (n : ℕ) (l : List A) → Each
 none-first c n [] h = refl
 none-first c n (x ∷ l) h = rw (h .0) (none-first c (suc n) l (h .1))
 
+-- What holds of every success holds of the first.
+pub ok-first {κ} : {A B : Type 0} (P : B → Type κ) (c : A → Option B) (n : ℕ) (l : List A)
+    → Each (λ x. Ok P (c x)) l → Ok (λ t. P (t .1)) (firstAt c n l)
+ok-first P c n [] h = tt
+ok-first P c n (x ∷ l) h = ok-else (λ t. P (t .1)) (Option·map (λ b. (n, b)) (c x)) (firstAt c (suc n) l)
+    (ok-map (λ t. P (t .1)) P (λ b. (n, b)) (λ b g. g) (c x) (h .0)) (ok-first P c (suc n) l (h .1))
+
 -- No law of the list fits any part of a pattern.
 abbrev pub Done : Node → Type 0
 Done r = Each (λ p. Each (λ f. f (p .part) ≡ none) laws) (places none r)
@@ -90,6 +97,15 @@ unfolding tidyStep found lowest
 undone r h = map-eq-none-iff _ (found r) .1 (none-first _ 0 (places none r)
     (each-imp (λ p. Each (λ f. f (p .part) ≡ none) laws) _
     (λ p f. map-eq-none-iff _ (lowest (p .part)) .1 (none-first (λ f. f (p .part)) 1 laws f)) (places none r) h))
+
+-- Where no law fits a part, the words of none apply to it.
+pub no-words : (r : Node) → Each (λ f. f r ≡ none) laws → Each (λ W. W r → ⊥) words
+unfolding laws words
+no-words r = go list
+  where
+    go : (l : List Law) → Each (λ f. f r ≡ none) (map (λ l. l .makes) l) → Each (λ W. W r → ⊥) (map (λ l. l .words) l)
+    go [] h = tt
+    go (x ∷ l) h = (λ w. subst IsSome (h .0) (x .exact .fits r w), go l (h .1))
 
 -- A pattern has as many places as records; its end, as a part of more, does not count.
 abbrev ending : Option Kind → Node → ℕ

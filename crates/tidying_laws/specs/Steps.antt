@@ -7,19 +7,15 @@ use Rattle.tidying_laws.specs.Groups.{groups, Positive, positive-both}
 use Rattle.tidying_laws.specs.Alike.{Alike, alike}
 use Rattle.tidying_laws.specs.Around.{Around, fill, anywhere}
 use Rattle.meaning.specs.Flat.{Kind, Kind.sequence, Kind.alternation, pair, glue}
-use Rattle.tidying_laws.specs.Laws.{laws}
+use Rattle.tidying_laws.specs.List.{laws, each-law}
 use Rattle.tidying_laws.specs.Tidier.{Place, itself, inside, whole, places, lowest, found, tidyStep}
-use Rattle.tidying_laws.specs.Kept.{Ok, ok-map, ok-first, Each, each-map, each-append, each-imp}
+use Rattle.tidying_laws.specs.Found.{ok-first}
+use Rattle.tidying_laws.specs.Kept.{Ok, ok-map, Each, each-map, each-append, each-imp}
 use Rattle.tidying_laws.specs.Kept.{Kept, in-group, in-left, in-right, in-many}
-use Rattle.tidying_laws.specs.Alternatives.{t6-kept}
-use Rattle.tidying_laws.specs.Shared.{t8-kept}
-use Rattle.tidying_laws.specs.Items.{t1-kept, t7-kept}
-use Rattle.tidying_laws.specs.Quantifiers.{t2-kept, t3-kept, t4-kept, t5-kept, t9-kept}
 
 -- Every law of the list keeps what it must.
 laws-kept : Each (λ f. (r : Node) → Ok (Kept r) (f r)) laws
-unfolding laws
-laws-kept = (t1-kept, (t2-kept, (t3-kept, (t4-kept, (t5-kept, (t6-kept, (t7-kept, (t8-kept, (t9-kept, tt)))))))))
+laws-kept = each-law _ (λ l. l .kept)
 
 -- What a law of the list makes of a pattern is alike, inside any surrounding pattern.
 pub laws-alike : Each (λ f. (r q : Node) → Positive (groups r) → f r ≡ some q → (a : Around) → Alike (fill a r) (fill a q)) laws

@@ -6,7 +6,7 @@ use Rattle.meaning.specs.Node.{Node, Node.empty, Node.bset, Node.assert, Node.g
 use Rattle.meaning.specs.Results.{orElse}
 use Rattle.meaning.specs.Flat.{Kind, Kind.sequence, Kind.alternation, glue}
 use Rattle.tidying_laws.specs.Measures.{weight}
-use Rattle.tidying_laws.specs.Laws.{laws}
+use Rattle.tidying_laws.specs.List.{laws}
 
 -- A part of a pattern, and what the pattern is with another in its place.
 pub record Place : Type 0 where

@@ -15,11 +15,9 @@ use Rattle.tidying_laws.specs.Around.{Around, fill, same-match, same-sea
 use Rattle.meaning.specs.Flat.{Flat}
 use Rattle.tidying_laws.specs.Measures.{weight, weighs}
 use Rattle.tidying_laws.specs.Charge.{charge, records, records-bound}
-use Rattle.tidying_laws.specs.Laws.{laws}
-use Rattle.tidying_laws.specs.Words.{words}
-use Rattle.tidying_laws.specs.Exact.{no-words}
+use Rattle.tidying_laws.specs.List.{laws, words}
 use Rattle.tidying_laws.specs.Tidier.{tidyStep, settle, tidies, tidy}
-use Rattle.tidying_laws.specs.Found.{Done, done}
+use Rattle.tidying_laws.specs.Found.{Done, done, no-words}
 use Rattle.tidying_laws.specs.Within.{Stands, everywhere}
 use Rattle.tidying_laws.specs.Kept.{Ok, Each, Kept}
 use Rattle.tidying_laws.specs.Steps.{step-kept}

@@ -7,7 +7,8 @@ use native.Mathlib.Decide.{decLe}
 use native.Mathlib.Omega.{arith}
 use lib.ListN.{getD, List·getD-eq-default}
 use Rattle.meaning.specs.Node.{Node}
-use Rattle.tidying_laws.specs.Laws.{laws, t1, t7, t8}
+use Rattle.tidying_laws.specs.List.{laws}
+use Rattle.tidying_laws.specs.Laws.{t1, t7, t8}
 use Rattle.tidying_fitting.specs.Fitting.{lawOf}
 use Rattle.tidying_fitting.specs.declared.Mark.the-variants.{Equal}
 use Rattle.tidying_rewriting.specs.Rewriting.{Law, SomeFitting, Rewrites, Narrower, narrower-same, some-wide}

@@ -2,7 +2,7 @@
 use Prim.Native.Nat.{_<_, _≤_}
 use native.Mathlib.Omega.{arith}
 use borrow.Author.Needs.{needs}
-use Rattle.tidying_laws.specs.Laws.{laws}
+use Rattle.tidying_laws.specs.List.{laws}
 use Rattle.tidying_fitting.specs.Fitting.{lawCount}
 use Rattle.tidying_fitting.proofs.Marked.{as-law, below, no-law}
 use Rattle.tidying_fitting.proofs.fits.Statement.{statement}
