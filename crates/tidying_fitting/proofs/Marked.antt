@@ -14,9 +14,9 @@ use Rattle.table.specs.Table.{recordCount}
 use Rattle.table.specs.Laws.{inner, kindOf}
 use Rattle.tidying_laws.specs.Groups.{groupFree}
 use Rattle.tidying_laws.specs.Alternatives.{past}
-use Rattle.tidying_laws.specs.List.{laws}
-use Rattle.tidying_laws.specs.Laws.{isEmpty}
-use Rattle.tidying_fitting.specs.Fitting.{isSome, lawCount, lawOf, fits}
+use Rattle.tidying_laws.specs.ByNumber.{lawOf, IsLaw, no-law}
+use Rattle.tidying_laws.specs.Laws.{isEmpty, t7}
+use Rattle.tidying_fitting.specs.Fitting.{isSome, fits}
 use Rattle.tidying_fitting.specs.Parts.{Sound, Ends, Tells, TellsLast, last-ends}
 use Rattle.tidying_fitting.specs.Words.{ownOf, free-highest, empty-kind}
 use Rattle.tidying_fitting.specs.Places.{leftmost, endOf}
@@ -73,26 +73,26 @@ module _ {table : List ℕ} {top : ℕ} where
 
   -- T7: among alternatives, or among the items of a sequence without groups.
   module _ {a : Bool} (t : Tells a table top (hasMarked 6 Void)) where
-    alternatives : (r : Node) (before : List ℕ) → Ends table top before r → fits 7 r ≡
+    alternatives : (r : Node) (before : List ℕ) → Ends table top before r → fits t7 r ≡
         (a || (hasMarked 5 Void r && eqb (hi r) 0))
     alternatives r before p =
         t7-marked r (p .sound) ∙ ap (λ b. b || (hasMarked 5 Void r && eqb (hi r) 0)) (sym (t .by before r p))
 
-    pub void-alternative : a ≡ true → Tells true table top (fits 7)
+    pub void-alternative : a ≡ true → Tells true table top (fits t7)
     void-alternative e = record {
       by = λ before r p. sym (alternatives r before p ∙ ap (λ b. b || (hasMarked 5 Void r && eqb (hi r) 0)) e);
     }
 
     module _ (e : a ≡ false) {b : Bool} (u : Tells b table top (hasMarked 5 Void)) where
-      items : (r : Node) (before : List ℕ) → Ends table top before r → fits 7 r ≡ (b && eqb (hi r) 0)
+      items : (r : Node) (before : List ℕ) → Ends table top before r → fits t7 r ≡ (b && eqb (hi r) 0)
       items r before p =
           alternatives r before p ∙ ap (λ b. b || (hasMarked 5 Void r && eqb (hi r) 0)) e ∙ ap (λ b. b && eqb (hi r) 0)
           (sym (u .by before r p))
 
-      pub no-void : b ≡ false → Tells false table top (fits 7)
+      pub no-void : b ≡ false → Tells false table top (fits t7)
       no-void f = record { by = λ before r p. sym (items r before p ∙ ap (λ b. b && eqb (hi r) 0) f) }
 
-      pub void-item : b ≡ true → {o : Record} → Tells o table top ownOf → Tells (eqb (o .highest) 0) table top (fits 7)
+      pub void-item : b ≡ true → {o : Record} → Tells o table top ownOf → Tells (eqb (o .highest) 0) table top (fits t7)
       void-item f t = record {
         by = λ before r p.
             ap (λ d. eqb (d .highest) 0) (t .by before r p) ∙ sym (items r before p ∙ ap (λ b. b && eqb (hi r) 0) f);
@@ -105,24 +105,10 @@ pub as-mark : {table : List ℕ} {top items : ℕ} {b : Bool} {mark : Mark} (v :
 as-mark {table} {top} {items} {b} v e t =
     subst (λ (m : Mark). TellsLast b table top items (λ front q. marks m (past front []) q)) (sym e) t
 
--- What is told of a law is told of its number.
-pub as-law : {table : List ℕ} {top : ℕ} {b : Bool} {k : ℕ} (v : ℕ) → k ≡ v → Tells b table top (fits v) → Tells b table top
-    (fits k)
-as-law {table} {top} {b} v e t = subst (λ (k : ℕ). Tells b table top (fits k)) (sym e) t
+-- What is told of a law is told of its number, and of a number that no law has that it fits nothing.
+pub as-law : {table : List ℕ} {top : ℕ} {b : Bool} {k : ℕ} (v : ℕ) → k ≡ v → Tells b table top (fits (lawOf v))
+    → Tells b table top (fits (lawOf k))
+as-law {table} {top} {b} v e t = subst (λ (k : ℕ). Tells b table top (fits (lawOf k))) (sym e) t
 
--- A number up to the next one that is not that one.
-pub below : {k : ℕ} (n : ℕ) → (k ≡ suc n → ⊥) → k ≤ suc n → k ≤ n
-below n h l = omega arith
-
--- A number that is not a law's is 0 or above their number.
-pub no-law : {table : List ℕ} {top : ℕ} (k : ℕ) → (0 < k → k ≤ lawCount → ⊥) → Tells false table top (fits k)
-unfolding fits lawOf lawCount
-no-law k h = record { by = λ before r p. ap (λ f. isSome (f r)) (sym (go (decLe k (length laws)))) }
-  where
-    at-zero : (k : ℕ) → (0 < k → ⊥) → lawOf k ≡ (λ r. none)
-    at-zero zero h = refl
-    at-zero (suc k) h = absurd (h (omega arith))
-
-    go : Dec (k ≤ length laws) → lawOf k ≡ (λ r. none)
-    go (yes l) = at-zero k (λ p. h p l)
-    go (no l) = List·getD-eq-default ((λ r. none) ∷ laws) (λ r. none) {n = k} (omega arith)
+pub as-none : {table : List ℕ} {top : ℕ} (k : ℕ) → (IsLaw k → ⊥) → Tells false table top (fits (lawOf k))
+as-none k h = record { by = λ before r p. ap (λ law. fits law r) (sym (no-law k h)) }

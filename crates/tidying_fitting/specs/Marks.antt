@@ -19,7 +19,7 @@ use Rattle.tidying_laws.specs.Laws.{when, two, onParts, isEmpty, filled, byteSe
 use Rattle.tidying_laws.specs.Laws.{firstSet, restOf, Run, extend, run, shared, sharedAt}
 use Rattle.tidying_laws.specs.List.{laws}
 use Rattle.tidying_laws.specs.Laws.{distinct, possible, share, t1, t6, t7, t8}
-use Rattle.tidying_fitting.specs.Fitting.{isSome, lawOf, fits}
+use Rattle.tidying_fitting.specs.Fitting.{isSome, fits}
 use Rattle.tidying_fitting.specs.Parts.{Sound}
 use Rattle.tidying_fitting.specs.Words.{free-highest, when-some}
 use Rattle.tidying_fitting.specs.Places.{Split, behind, Test, leftmost, endOf}
@@ -166,8 +166,8 @@ share-leftmost seen r (q ∷ l) =
 two-parts : {A : Type 0} (k : Kind) (f : List Node → Option A) (r q : Node) → two f (r ∷ parts k q) ≡ f (r ∷ parts k q)
 two-parts k f r q = by-parts k (λ q l. two f (r ∷ l) ≡ f (r ∷ l)) (λ q n. refl) (λ p q l e. refl) q
 
-pub t1-marked : (r : Node) → fits 1 r ≡ hasMarked 5 Empty r
-unfolding fits lawOf laws t1 parts inner
+pub t1-marked : (r : Node) → fits t1 r ≡ hasMarked 5 Empty r
+unfolding parts inner
 t1-marked empty = refl
 t1-marked (bset s) = refl
 t1-marked (assert a) = refl
@@ -178,8 +178,8 @@ t1-marked (seq r q) = let l : List Node = r ∷ parts sequence q in
 t1-marked (alt r q) = refl
 t1-marked (many n e lazy r) = refl
 
-pub t6-marked : (r : Node) → fits 6 r ≡ hasMarked 6 Equal r
-unfolding fits lawOf laws t6 parts inner
+pub t6-marked : (r : Node) → fits t6 r ≡ hasMarked 6 Equal r
+unfolding parts inner
 t6-marked empty = refl
 t6-marked (bset s) = refl
 t6-marked (assert a) = refl
@@ -190,8 +190,8 @@ t6-marked (alt r q) = let l : List Node = r ∷ parts alternation q in
     ∙ map-some (join alternation) (distinct [] l) ∙ ap isSome (distinct-leftmost [] l) ∙ map-some without (leftmost goes [] l)
 t6-marked (many n e lazy r) = refl
 
-pub t8-marked : (r : Node) → fits 8 r ≡ hasMarked 6 Alike r
-unfolding fits lawOf laws t8 parts inner
+pub t8-marked : (r : Node) → fits t8 r ≡ hasMarked 6 Alike r
+unfolding parts inner
 t8-marked empty = refl
 t8-marked (bset s) = refl
 t8-marked (assert a) = refl
@@ -208,8 +208,8 @@ and-comm true false = refl
 and-comm false true = refl
 and-comm false false = refl
 
-pub t7-marked : (r : Node) → Sound r → fits 7 r ≡ (hasMarked 6 Void r || (hasMarked 5 Void r && eqb (hi r) 0))
-unfolding fits lawOf laws t7 parts inner
+pub t7-marked : (r : Node) → Sound r → fits t7 r ≡ (hasMarked 6 Void r || (hasMarked 5 Void r && eqb (hi r) 0))
+unfolding parts inner
 t7-marked empty h = refl
 t7-marked (bset s) h = refl
 t7-marked (assert a) h = refl

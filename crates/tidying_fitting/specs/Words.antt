@@ -20,7 +20,7 @@ use Rattle.tidying_laws.specs.Equal.{same, same-eq, same-refl}
 use Rattle.tidying_laws.specs.Quantified.{absorbed}
 use Rattle.tidying_laws.specs.List.{laws}
 use Rattle.tidying_laws.specs.Laws.{when, sameMore, counts, isEmpty, onAssert, onMany, t1, t2, t3, t4, t5, t6, t7, t8, t9}
-use Rattle.tidying_fitting.specs.Fitting.{isSome, lawOf, fits}
+use Rattle.tidying_fitting.specs.Fitting.{isSome, fits}
 use Rattle.tidying_fitting.specs.Parts.{Sound}
 use Rattle.tidying_fitting.specs.declared.Record.{Record}
 
@@ -131,8 +131,8 @@ once (suc (suc n)) (some zero) b q h =
     let zero : counts (suc (suc n)) (some 0) 0 (some 0) ≡ false = rw (ne-eqb (suc (suc n)) 0 (λ e. omega arith)) in
     rw (one, zero, lt-leb (suc (suc n)) 1 (omega arith)) (sym (and-false (eqb (suc (suc n)) (suc (suc n) + 0))))
 
-pub t2-words : (r : Node) → Sound r → onceOrNever (ownOf r) ≡ fits 2 r
-unfolding fits lawOf laws t2 hi groups
+pub t2-words : (r : Node) → Sound r → onceOrNever (ownOf r) ≡ fits t2 r
+unfolding hi groups
 t2-words empty h = refl
 t2-words (bset s) h = refl
 t2-words (assert a) h = refl
@@ -154,8 +154,7 @@ empty-kind r = same-test (isEmpty r) (eqb (kindOf r) 1) (λ t. rw (same-eq r emp
     back (alt r q) t = absurd (false≢true t)
     back (many n e lazy r) t = absurd (false≢true t)
 
-pub t3-over : (r : Node) → fits 3 r ≡ isOver 1 r
-unfolding fits lawOf laws t3
+pub t3-over : (r : Node) → fits t3 r ≡ isOver 1 r
 t3-over empty = refl
 t3-over (bset s) = refl
 t3-over (assert a) = refl
@@ -165,8 +164,7 @@ t3-over (alt r q) = refl
 t3-over (many n e lazy r) = when-some (isEmpty r) empty ∙ empty-kind r
 
 -- T4: only an assertion has kind 3.
-pub t4-over : (r : Node) → fits 4 r ≡ isOver 3 r
-unfolding fits lawOf laws t4
+pub t4-over : (r : Node) → fits t4 r ≡ isOver 3 r
 t4-over empty = refl
 t4-over (bset s) = refl
 t4-over (assert a) = refl
@@ -250,8 +248,7 @@ module _ (more : Option ℕ) (most : ℕ) (lazyTest : Bool → Bool → Bool) (w
   nested-words n e lazy (seq r q) h = unnested most (ownOf (many n e lazy (seq r q))) (seq r q) _ (λ e. omega arith)
   nested-words n e lazy (alt r q) h = unnested most (ownOf (many n e lazy (alt r q))) (alt r q) _ (λ e. omega arith)
 
-pub t5-words : (r : Node) → Sound r → fits 5 r ≡ (isNested noMaximum r && lazyWords leb r)
-unfolding fits lawOf laws t5
+pub t5-words : (r : Node) → Sound r → fits t5 r ≡ (isNested noMaximum r && lazyWords leb r)
 t5-words empty h = refl
 t5-words (bset s) h = refl
 t5-words (assert a) h = refl
@@ -260,8 +257,7 @@ t5-words (seq r q) h = refl
 t5-words (alt r q) h = refl
 t5-words (many n e lazy q) h = nested-words none noMaximum absorbed leb none-more absorbed-word n e lazy q h
 
-pub t9-words : (r : Node) → Sound r → fits 9 r ≡ (isNested 1 r && lazyWords eqb r)
-unfolding fits lawOf laws t9
+pub t9-words : (r : Node) → Sound r → fits t9 r ≡ (isNested 1 r && lazyWords eqb r)
 t9-words empty h = refl
 t9-words (bset s) h = refl
 t9-words (assert a) h = refl

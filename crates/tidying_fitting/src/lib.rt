@@ -8,17 +8,24 @@ use table::LEAST;
 use table::MOST;
 use table::RECORDS;
 use table::word;
+use tidying_laws::T1;
+use tidying_laws::T2;
+use tidying_laws::T3;
+use tidying_laws::T4;
+use tidying_laws::T5;
+use tidying_laws::T6;
+use tidying_laws::T7;
+use tidying_laws::T8;
+use tidying_laws::T9;
 
 mod quantifiers; // quantifiers.rt: T2 to T5 and T9, laws for a quantifier
 pub mod series; // series.rt: T1 and T6 to T8, laws for the items of a sequence and the alternatives of an alternation
 
 ghost use Rattle.table.specs.Laws.{lastOf};
+ghost use Rattle.tidying_laws.specs.ByNumber.{lawOf};
 ghost use Rattle.tidying_fitting.specs.Fitting.{fits};
 ghost use Rattle.tidying_fitting.specs.Parts.{SomePart, Tells};
 ghost use Rattle.tidying_fitting.specs.Words.{ownOf, startOf};
-
-// How many laws there are.
-pub const LAWS: u32 = 9;
 
 // What a part's own record says: its kind, how many records and items it has, its highest group, and a quantifier's
 // counts and laziness.
@@ -83,21 +90,21 @@ pub fn last_words(table: &[u32], top: usize) -> [u32; 8]
     ]
 }
 
-// Whether a law fits the part that ends at `top`. No law has another number.
+// Whether the law of a number fits the part that ends at `top`. A number that no law has fits nothing.
 pub fn fits(table: &[u32], top: usize, law: u32) -> bool
     requires { ⌜ SomePart (now table) top ⌝ }
-    ensures { λ r. ⌜ Tells r (now (table .entry)) top (fits law) ⌝ }
+    ensures { λ r. ⌜ Tells r (now (table .entry)) top (fits (lawOf law)) ⌝ }
 {
     match law {
-        1 => series::empty_item(table, top),
-        2 => quantifiers::once_or_never(table, top),
-        3 => quantifiers::quantified_empty(table, top),
-        4 => quantifiers::quantified_assertion(table, top),
-        5 => quantifiers::loop_of_loop(table, top),
-        6 => series::equal_alternative(table, top),
-        7 => series::void_part(table, top),
-        8 => series::shared_first(table, top),
-        9 => quantifiers::option_of_option(table, top),
+        T1 => series::empty_item(table, top),
+        T2 => quantifiers::once_or_never(table, top),
+        T3 => quantifiers::quantified_empty(table, top),
+        T4 => quantifiers::quantified_assertion(table, top),
+        T5 => quantifiers::loop_of_loop(table, top),
+        T6 => series::equal_alternative(table, top),
+        T7 => series::void_part(table, top),
+        T8 => series::shared_first(table, top),
+        T9 => quantifiers::option_of_option(table, top),
         _ => false,
     }
 }

@@ -13,7 +13,7 @@ ghost use mathlib.Core.List.{[]};
 ghost use Prim.Native.Nat.{_+_, _≤_};
 ghost use lib.ListN.{length};
 ghost use Rattle.tidying_laws.specs.Equal.{same};
-ghost use Rattle.tidying_laws.specs.Laws.{isVoid};
+ghost use Rattle.tidying_laws.specs.Laws.{isVoid, t1, t6, t7, t8};
 ghost use Rattle.tidying_laws.specs.Alternatives.{past};
 ghost use Rattle.tidying_fitting.specs.Fitting.{fits};
 ghost use Rattle.tidying_fitting.specs.Parts.{SomePart, SomeRow, Tells, TellsLast, TellsBoth, FirstEnds, Compares};
@@ -187,7 +187,7 @@ fn has_marked(table: &[u32], top: usize, kind: u32, mark: Mark) -> bool
 // T1: an item of a sequence is empty.
 pub fn empty_item(table: &[u32], top: usize) -> bool
     requires { ⌜ SomePart (now table) top ⌝ }
-    ensures { λ r. ⌜ Tells r (now (table .entry)) top (fits 1) ⌝ }
+    ensures { λ r. ⌜ Tells r (now (table .entry)) top (fits t1) ⌝ }
 {
     has_marked(table, top, SEQUENCE, Mark::Empty)
 }
@@ -195,7 +195,7 @@ pub fn empty_item(table: &[u32], top: usize) -> bool
 // T6: an alternative without groups equals an earlier one.
 pub fn equal_alternative(table: &[u32], top: usize) -> bool
     requires { ⌜ SomePart (now table) top ⌝ }
-    ensures { λ r. ⌜ Tells r (now (table .entry)) top (fits 6) ⌝ }
+    ensures { λ r. ⌜ Tells r (now (table .entry)) top (fits t6) ⌝ }
 {
     has_marked(table, top, ALTERNATION, Mark::Equal)
 }
@@ -203,7 +203,7 @@ pub fn equal_alternative(table: &[u32], top: usize) -> bool
 // T7: an alternative is a set with no byte, or an item of a sequence without groups.
 pub fn void_part(table: &[u32], top: usize) -> bool
     requires { ⌜ SomePart (now table) top ⌝ }
-    ensures { λ r. ⌜ Tells r (now (table .entry)) top (fits 7) ⌝ }
+    ensures { λ r. ⌜ Tells r (now (table .entry)) top (fits t7) ⌝ }
 {
     if has_marked(table, top, ALTERNATION, Mark::Void) {
         return true;
@@ -218,7 +218,7 @@ pub fn void_part(table: &[u32], top: usize) -> bool
 // T8: two neighbours among the alternatives begin with the same byte set.
 pub fn shared_first(table: &[u32], top: usize) -> bool
     requires { ⌜ SomePart (now table) top ⌝ }
-    ensures { λ r. ⌜ Tells r (now (table .entry)) top (fits 8) ⌝ }
+    ensures { λ r. ⌜ Tells r (now (table .entry)) top (fits t8) ⌝ }
 {
     has_marked(table, top, ALTERNATION, Mark::Alike)
 }

@@ -22,6 +22,7 @@ pub mod Words
 pub mod Fits
 pub mod Exact
 pub mod List
+pub mod ByNumber
 pub mod Tidier
 pub mod Found
 pub mod Steps
