@@ -137,7 +137,6 @@ filledRow l = when (any isEmpty l) (join sequence (filled l))
 module _ {table₀ : List ℕ} {n₀ part : ℕ} {before : List ℕ} {x y : Node} {l m : List Token}
     (fit : Fitting t1 table₀ n₀ part before x y l m) where
   row : RowOf sequence filledRow x y
-  unfolding t1
   row = ok-some (RowOf sequence filledRow x) (fit .fits) (row-of sequence filledRow x)
 
   pub fill-result : join sequence (filled (inner x)) ≡ y
