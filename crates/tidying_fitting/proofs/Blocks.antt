@@ -1,18 +1,18 @@
 -- Two parts are equal exactly if their records are, word for word. Assumes nothing.
 use mathlib.Core.Path.{_≡_, refl, sym, ap, _∙_}
 use mathlib.Core.Bool.{Bool, true, false, false≢true}
-use mathlib.Core.List.{List, [], _∷_, _++_}
-use Prim.Native.Nat.{ℕ, zero, suc, _+_, _-_, _*_, _≤_, _<_}
+use mathlib.Core.List.{List, _++_}
+use Prim.Native.Nat.{ℕ, _+_, _-_, _*_, _≤_, _<_}
 use native.Mathlib.Omega.{arith}
 use lib.ListN.{length, getD, length-append}
 use lib.Seq.{getD-take, getD-append-add, ext-getD}
-use Rattle.meaning.specs.Node.{Node, Proper}
+use Rattle.meaning.specs.Node.{Node}
 use Rattle.table.specs.Table.{recordWords, recordCount, records}
 use Rattle.table.specs.Laws.{long}
 use Rattle.table.specs.Roots.{stands-long}
 use Rattle.tidying_shapes.specs.Told.{records-injective}
 use Rattle.tidying_laws.specs.Equal.{same, same-eq, same-refl}
-use Rattle.tidying_fitting.specs.Parts.{Sound, Ends, SomePart, Tells, TellsBoth, Compares, Room, room}
+use Rattle.tidying_fitting.specs.Parts.{Ends, SomePart, Tells, TellsBoth, Compares, room}
 use Rattle.tidying_fitting.specs.Words.{startOf, same-test}
 
 -- The words of a part's records, in the table.

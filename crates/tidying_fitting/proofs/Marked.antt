@@ -1,12 +1,8 @@
 -- From what is found in a row to what is told of the law that looks for it. Assumes nothing.
-use mathlib.Core.Path.{_≡_, refl, sym, ap, subst, _∙_}
+use mathlib.Core.Path.{_≡_, sym, ap, subst, _∙_}
 use mathlib.Core.Bool.{Bool, true, false, not, _&&_, _||_}
-use mathlib.Core.Option.{none}
-use mathlib.Core.List.{List, [], _∷_}
-use Prim.Native.Nat.{ℕ, zero, suc, _+_, _-_, _*_, _≤_, _<_}
-use native.Mathlib.Omega.{arith}
-use native.Mathlib.Decide.{decLe}
-use lib.ListN.{length, getD, List·getD-eq-default}
+use mathlib.Core.List.{List, []}
+use Prim.Native.Nat.{ℕ, _-_}
 use lib.Dec.{eqb}
 use borrow.Author.Tests.{eq-eqb, ne-eqb}
 use Rattle.meaning.specs.Node.{Node, hi}
@@ -17,9 +13,9 @@ use Rattle.tidying_laws.specs.Alternatives.{past}
 use Rattle.tidying_laws.specs.ByNumber.{lawOf, IsLaw, no-law}
 use Rattle.tidying_laws.specs.Laws.{isEmpty, t7}
 use Rattle.tidying_fitting.specs.Fitting.{isSome, fits}
-use Rattle.tidying_fitting.specs.Parts.{Sound, Ends, Tells, TellsLast, last-ends}
+use Rattle.tidying_fitting.specs.Parts.{Ends, Tells, TellsLast, last-ends}
 use Rattle.tidying_fitting.specs.Words.{ownOf, free-highest, empty-kind}
-use Rattle.tidying_fitting.specs.Places.{leftmost, endOf}
+use Rattle.tidying_fitting.specs.Places.{leftmost}
 use Rattle.tidying_fitting.specs.Marks.{repeats, goes, marks, markedEnd, hasMarked, t7-marked}
 use Rattle.tidying_fitting.specs.declared.Record.{Record}
 use Rattle.tidying_fitting.specs.declared.Mark.{Mark}

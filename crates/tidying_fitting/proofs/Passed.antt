@@ -22,7 +22,7 @@ use Rattle.tidying_fitting.specs.Parts.{inside, last-ends}
 use Rattle.tidying_fitting.specs.Words.{ownOf, startOf, same-test, when-some}
 use Rattle.tidying_fitting.specs.Marks.{alike, beginsWith}
 use Rattle.tidying_fitting.specs.Fitting.{isSome}
-use Rattle.tidying_fitting.specs.Places.{Test, Walk, Turn, begin, turn, over}
+use Rattle.tidying_fitting.specs.Places.{Test, Walk, Turn, begin, turn}
 use Rattle.tidying_fitting.specs.declared.Record.{Record}
 
 -- A byte set is the same as the set of no byte exactly if it has no byte.

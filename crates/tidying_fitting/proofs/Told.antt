@@ -2,17 +2,17 @@
 use mathlib.Core.Path.{_≡_, refl, sym, ap, _∙_}
 use mathlib.Core.Bool.{Bool, true, false, _&&_, false≢true}
 use mathlib.Core.List.{List, [], _∷_, append-nil}
-use Prim.Native.Nat.{ℕ, zero, suc, _+_, _-_, _*_, _≤_, _<_}
+use Prim.Native.Nat.{ℕ, _+_, _-_, _*_, _≤_, _<_}
 use native.Mathlib.Omega.{arith}
 use lib.ListN.{length, getD}
 use lib.Dec.{eqb}
 use borrow.Author.Tests.{eqb-true}
 use Rattle.meaning.specs.Tests.{and-true}
 use Rattle.meaning.specs.Node.{Node, Node.empty, Node.bset, Node.assert, Node.group, Node.seq, Node.alt, Node.many, hi}
-use Rattle.table.specs.Table.{recordWords, recordOf}
-use Rattle.table.specs.Laws.{inner, kindOf, operandOf, lastOf, last-eight}
+use Rattle.table.specs.Table.{recordWords}
+use Rattle.table.specs.Laws.{inner, kindOf, lastOf, last-eight}
 use Rattle.table.specs.Roots.{root-word}
-use Rattle.tidying_fitting.specs.Parts.{Sound, Ends, Row, SomePart, Tells, Room, room, inside, last-ends}
+use Rattle.tidying_fitting.specs.Parts.{Sound, Ends, SomePart, Tells, room, inside, last-ends}
 use Rattle.tidying_fitting.specs.Words.{ownOf, startOf, onPart, ranged, nestedIn, isNested}
 use Rattle.tidying_fitting.specs.declared.Record.{Record}
 

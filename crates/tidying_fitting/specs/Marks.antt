@@ -3,8 +3,7 @@ use mathlib.Core.Path.{_≡_, refl, sym, ap, _∙_}
 use mathlib.Core.Bool.{Bool, true, false, cond, _&&_, _||_, or-false, false≢true}
 use mathlib.Core.Option.{Option, none, some, Option·map, Option·none-ne-some, Option·some-injective}
 use mathlib.Core.List.{List, [], _∷_, _++_}
-use Prim.Native.Nat.{ℕ, zero, suc, _+_, _-_}
-use native.Mathlib.Omega.{arith}
+use Prim.Native.Nat.{ℕ, _+_, _-_}
 use lib.Dec.{eqb}
 use Rattle.meaning.specs.Node.{Node, Node.empty, Node.bset, Node.assert, Node.group, Node.seq, Node.alt, Node.many, hi}
 use Rattle.meaning.specs.Flat.{Kind, Kind.sequence, Kind.alternation, parts, join, by-parts}
@@ -15,9 +14,8 @@ use Rattle.tidying_laws.specs.Choices.{any}
 use Rattle.tidying_laws.specs.Groups.{groupFree}
 use Rattle.tidying_laws.specs.Equal.{same, same-refl}
 use Rattle.tidying_laws.specs.Void.{void}
-use Rattle.tidying_laws.specs.Laws.{when, two, onParts, isEmpty, filled, byteSet, isVoid}
+use Rattle.tidying_laws.specs.Laws.{when, two, isEmpty, filled, byteSet, isVoid}
 use Rattle.tidying_laws.specs.Laws.{firstSet, restOf, Run, extend, run, shared, sharedAt}
-use Rattle.tidying_laws.specs.List.{laws}
 use Rattle.tidying_laws.specs.Laws.{distinct, possible, share, t1, t6, t7, t8}
 use Rattle.tidying_fitting.specs.Fitting.{isSome, fits}
 use Rattle.tidying_fitting.specs.Parts.{Sound}

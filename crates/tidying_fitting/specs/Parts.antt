@@ -1,7 +1,7 @@
 -- Parts whose records stand in a table, and rows of them: how a row is walked from its last part back.
 use mathlib.Core.Path.{_≡_, refl, sym, ap, _∙_}
 use mathlib.Core.List.{List, [], _∷_, _++_, append-assoc, append-nil}
-use Prim.Native.Nat.{ℕ, zero, suc, _+_, _-_, _*_, _≤_, _<_}
+use Prim.Native.Nat.{ℕ, _+_, _-_, _*_, _≤_, _<_}
 use native.Mathlib.Nat.{not-suc-le-zero}
 use native.Mathlib.Omega.{arith}
 use lib.ListN.{length, getD, length-append}
@@ -10,7 +10,7 @@ use Rattle.meaning.specs.Node.{Node, Node.empty, Node.bset, Node.assert, Node.g
 use Rattle.meaning.specs.Flat.{Kind, Kind.sequence, Kind.alternation, pair, parts, by-parts}
 use Rattle.meaning.specs.Results.{concatMap}
 use Rattle.table.specs.Table.{recordWords, recordCount, records}
-use Rattle.table.specs.Laws.{Each, each-left, each-right, inner, countAll, records-append, long, long-all, inner-count}
+use Rattle.table.specs.Laws.{Each, each-left, each-right, inner, records-append, long, inner-count}
 use Rattle.tidying_shapes.specs.Parse.{LimitedAll}
 use Rattle.table.specs.Stands.{Stands}
 use Rattle.table.specs.Roots.{stands-under, stands-long, parts-stand}

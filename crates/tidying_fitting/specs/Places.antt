@@ -1,21 +1,18 @@
 -- The leftmost part of a row that passes a test: T1, T6, T7 and T8 fit where there is one. A row is walked from its
 -- last part back.
 use mathlib.Core.Path.{_≡_, refl, sym, ap, _∙_}
-use mathlib.Core.Bool.{Bool, true, false, cond, _&&_, _||_}
+use mathlib.Core.Bool.{Bool, true, false, cond}
 use mathlib.Core.Option.{Option, none, some, Option·map}
 use mathlib.Core.List.{List, [], _∷_, _++_, append-assoc, append-nil}
-use Prim.Native.Nat.{ℕ, zero, suc, _+_, _-_, _*_, _≤_, _<_}
+use Prim.Native.Nat.{ℕ, _+_, _-_, _≤_, _<_}
 use native.Mathlib.Nat.{not-suc-le-zero}
 use native.Mathlib.Omega.{arith}
-use lib.ListN.{length, length-append}
+use lib.ListN.{length}
 use Rattle.meaning.specs.Node.{Node}
-use Rattle.meaning.specs.Results.{concatMap}
-use Rattle.table.specs.Table.{recordWords, recordCount, records}
+use Rattle.table.specs.Table.{recordCount}
 use Rattle.table.specs.Laws.{countAll}
-use Rattle.tidying_laws.specs.Choices.{any}
 use Rattle.tidying_laws.specs.Alternatives.{past}
-use Rattle.tidying_fitting.specs.Fitting.{isSome}
-use Rattle.tidying_fitting.specs.Parts.{Row, Ends, Last, some-last, last-ends, shorter, room}
+use Rattle.tidying_fitting.specs.Parts.{Row, some-last, last-ends, shorter, room}
 
 -- A list taken apart at one of its parts.
 pub record Split : Type 0 where

@@ -1,14 +1,13 @@
 -- T2 to T5 and T9 by the words of a quantifier's own record, and of its part's.
-use mathlib.Core.Path.{_≡_, refl, sym, ap, _∙_}
-use mathlib.Core.Bool.{Bool, true, false, cond, not, _&&_, _||_, Bool·beq, false≢true}
+use mathlib.Core.Path.{_≡_, refl, sym, _∙_}
+use mathlib.Core.Bool.{Bool, true, false, cond, _&&_, Bool·beq, false≢true}
 use mathlib.Core.Option.{Option, none, some}
-use mathlib.Core.List.{List, [], _∷_}
-use Prim.Native.Nat.{ℕ, zero, suc, _+_, _-_, _≤_, _<_, max}
+use mathlib.Core.List.{[]}
+use Prim.Native.Nat.{ℕ, zero, suc, _+_, _-_}
 use native.Mathlib.Omega.{arith}
-use native.Mathlib.Decide.{ℕ-discrete}
 use lib.ListN.{length, getD}
 use lib.Dec.{eqb, leb}
-use borrow.Author.Tests.{eq-eqb, ne-eqb, eqb-true, eqb-false, le-leb, lt-leb}
+use borrow.Author.Tests.{eq-eqb, ne-eqb, eqb-true, lt-leb}
 use Rattle.meaning.specs.Node.{Node, Node.empty, Node.bset, Node.assert, Node.group, Node.seq, Node.alt, Node.many, hi}
 use Rattle.meaning.specs.Results.{orElse}
 use Rattle.meaning.specs.Limits.{noMaximum}
@@ -18,8 +17,7 @@ use Rattle.table.specs.Derived.{Limited}
 use Rattle.tidying_laws.specs.Groups.{groups, Positive, positive-both, groupFree, free-groups, same-high}
 use Rattle.tidying_laws.specs.Equal.{same, same-eq, same-refl}
 use Rattle.tidying_laws.specs.Quantified.{absorbed}
-use Rattle.tidying_laws.specs.List.{laws}
-use Rattle.tidying_laws.specs.Laws.{when, sameMore, counts, isEmpty, onAssert, onMany, t1, t2, t3, t4, t5, t6, t7, t8, t9}
+use Rattle.tidying_laws.specs.Laws.{when, counts, isEmpty, onAssert, onMany, t2, t3, t4, t5, t9}
 use Rattle.tidying_fitting.specs.Fitting.{isSome, fits}
 use Rattle.tidying_fitting.specs.Parts.{Sound}
 use Rattle.tidying_fitting.specs.declared.Record.{Record}
@@ -248,21 +246,19 @@ module _ (more : Option ℕ) (most : ℕ) (lazyTest : Bool → Bool → Bool) (w
   nested-words n e lazy (seq r q) h = unnested most (ownOf (many n e lazy (seq r q))) (seq r q) _ (λ e. omega arith)
   nested-words n e lazy (alt r q) h = unnested most (ownOf (many n e lazy (alt r q))) (alt r q) _ (λ e. omega arith)
 
+  nested-fits : (r : Node) → Sound r → isSome (onMany (λ n e lazy. onMany (λ m f inner r.
+      when (counts n e 0 more && counts m f 0 more && lazyTest inner lazy && groupFree r) (many 0 more lazy r))) r)
+      ≡ (isNested most r && lazyWords wordTest r)
+  nested-fits empty h = refl
+  nested-fits (bset s) h = refl
+  nested-fits (assert a) h = refl
+  nested-fits (group k r) h = refl
+  nested-fits (seq r q) h = refl
+  nested-fits (alt r q) h = refl
+  nested-fits (many n e lazy q) h = nested-words n e lazy q h
+
 pub t5-words : (r : Node) → Sound r → fits t5 r ≡ (isNested noMaximum r && lazyWords leb r)
-t5-words empty h = refl
-t5-words (bset s) h = refl
-t5-words (assert a) h = refl
-t5-words (group k r) h = refl
-t5-words (seq r q) h = refl
-t5-words (alt r q) h = refl
-t5-words (many n e lazy q) h = nested-words none noMaximum absorbed leb none-more absorbed-word n e lazy q h
+t5-words = nested-fits none noMaximum absorbed leb none-more absorbed-word
 
 pub t9-words : (r : Node) → Sound r → fits t9 r ≡ (isNested 1 r && lazyWords eqb r)
-t9-words empty h = refl
-t9-words (bset s) h = refl
-t9-words (assert a) h = refl
-t9-words (group k r) h = refl
-t9-words (seq r q) h = refl
-t9-words (alt r q) h = refl
-t9-words (many n e lazy q) h = nested-words (some 1) 1 (λ inner outer. Bool·beq outer inner) eqb one-more
-    (λ inner outer. same-word outer inner) n e lazy q h
+t9-words = nested-fits (some 1) 1 (λ inner outer. Bool·beq outer inner) eqb one-more (λ inner outer. same-word outer inner)

@@ -1,20 +1,20 @@
 -- T2 to T5 and T9, laws for a quantifier: its own record goes, or the one of the quantifier inside it, or it becomes empty.
-use mathlib.Core.Path.{_≡_, refl, ap, ap₂, _∙_}
-use mathlib.Core.Bool.{Bool, true, false, cond, _&&_, Bool·beq, false≢true}
+use mathlib.Core.Path.{_≡_, refl, ap, _∙_}
+use mathlib.Core.Bool.{Bool, true, false, cond, _&&_, Bool·beq}
 use mathlib.Core.Option.{Option, none, some}
 use mathlib.Core.List.{List, [], _∷_, _++_, append-assoc, append-nil}
 use Prim.Native.Nat.{ℕ}
 use lib.ListN.{getD}
 use lib.Dec.{eqb}
-use borrow.Author.Tests.{eqb-true, ne-eqb}
+use borrow.Author.Tests.{ne-eqb}
 use Rattle.meaning.specs.Tests.{and-true}
-use Rattle.meaning.specs.Node.{Node, Node.empty, Node.bset, Node.assert, Node.group, Node.seq, Node.alt, Node.many}
+use Rattle.meaning.specs.Node.{Node, Node.empty, Node.many}
 use Rattle.meaning.specs.Results.{concatMap}
 use Rattle.table.specs.Laws.{inner, lastOf}
 use Rattle.tidying_laws.specs.Groups.{groupFree}
 use Rattle.tidying_laws.specs.Equal.{same-eq}
 use Rattle.tidying_laws.specs.Quantified.{absorbed}
-use Rattle.tidying_laws.specs.Laws.{when, onMany, counts, sameMore, isEmpty, t2, t3, t4, t5, t9}
+use Rattle.tidying_laws.specs.Laws.{when, onMany, counts, isEmpty, t2, t3, t4, t5, t9}
 use Rattle.tidying_laws.specs.Kept.{Ok, ok-when, ok-else}
 use Rattle.tidying_laws.specs.Quantifiers.{counts-eq, tests, on-many, on-assert}
 use Rattle.tidying_shapes.specs.Skeleton.{Token, token, skeletonIn, skeleton}
@@ -79,24 +79,15 @@ pub t9-leaves : Narrower t9 unnested
 t9-leaves = nested-leaves (some 1) (λ inner lazy. Bool·beq lazy inner)
 
 -- With a minimum of 0 nothing is left, and else the parts inside the quantifier.
-pub left-empty : (x : Node) → getD (lastOf x) 0 0 ≡ 0 → Ok (λ y. y ≡ empty) (unquantified x)
-left-empty empty z = tt
-left-empty (bset s) z = tt
-left-empty (assert a) z = tt
-left-empty (group k r) z = tt
-left-empty (seq r q) z = tt
-left-empty (alt r q) z = tt
-left-empty (many n e lazy r) z = ap (λ k. cond (eqb k 0) empty r) z
+pub left-empty : (x : Node) → Ok (λ y. getD (lastOf x) 0 0 ≡ 0 → y ≡ empty) (unquantified x)
+left-empty = on-many (λ x y. getD (lastOf x) 0 0 ≡ 0 → y ≡ empty) _ (λ n e lazy r z. ap (λ k. cond (eqb k 0) empty r) z)
 
-pub left-part : (x : Node) → (getD (lastOf x) 0 0 ≡ 0 → ⊥) → Ok (λ y. concatMap skeleton (inner x) ≡ skeleton y) (unquantified x)
+abbrev pub Inside : Node → Node → Type 0
+Inside x y = (getD (lastOf x) 0 0 ≡ 0 → ⊥) → concatMap skeleton (inner x) ≡ skeleton y
+
+pub left-part : (x : Node) → Ok (Inside x) (unquantified x)
 unfolding inner
-left-part empty z = tt
-left-part (bset s) z = tt
-left-part (assert a) z = tt
-left-part (group k r) z = tt
-left-part (seq r q) z = tt
-left-part (alt r q) z = tt
-left-part (many n e lazy r) z = rw (ne-eqb n 0 z) (append-nil (skeleton r))
+left-part = on-many Inside _ (λ n e lazy r z. rw (ne-eqb n 0 z) (append-nil (skeleton r)))
 
 -- Of a quantifier over another, the last token but one is that of the inner.
 pub record Nested (x y : Node) : Type 0 where
@@ -108,22 +99,10 @@ pub record Nested (x y : Node) : Type 0 where
 
 pub left-outer : (x : Node) → Ok (Nested x) (unnested x)
 unfolding skeletonIn inner
-left-outer empty = tt
-left-outer (bset s) = tt
-left-outer (assert a) = tt
-left-outer (group k r) = tt
-left-outer (seq r q) = tt
-left-outer (alt r q) = tt
-left-outer (many n e lazy empty) = tt
-left-outer (many n e lazy (bset s)) = tt
-left-outer (many n e lazy (assert a)) = tt
-left-outer (many n e lazy (group k r)) = tt
-left-outer (many n e lazy (seq r q)) = tt
-left-outer (many n e lazy (alt r q)) = tt
-left-outer (many n e lazy (many m f inner r)) = record {
+left-outer = on-many Nested _ (λ n e lazy. on-many (λ q. Nested (many n e lazy q)) _ (λ m f inner r. record {
   part = skeleton r;
   gone = token (many m f inner r);
   outer = token (many n e lazy r);
   whole = append-assoc (skeleton r) (token (many m f inner r) ∷ []) (token (many n e lazy r) ∷ []);
   left = refl;
-}
+}))

@@ -1,11 +1,8 @@
 use native.Mathlib.Omega.{arith}
-use Prim.Native.Nat.{ℕ, _+_, _-_, _*_, _≤_, _<_}
+use Prim.Native.Nat.{_-_}
 use Rattle.tidying_fitting.proofs.Told.{asked, last-told}
 use Rattle.tidying_fitting.proofs.last_words.Statement.{statement}
 use Rattle.tidying_fitting.proofs.last_words.Tie as tie
-use Rattle.tidying_fitting.proofs.last_words.Reads as reads
-use Rattle.tidying_fitting.proofs.last_words.Lts as lts
-use Rattle.table.proofs.word.Reads as word-reads
 
 word-requires : tie.Need-word-requires
 word-requires c κs = omega (arith, asked ((c .before) .pre))

@@ -1,5 +1,4 @@
-use native.Mathlib.Omega.{arith}
-use Prim.Native.Nat.{ℕ, _+_, _-_, _*_, _≤_, _<_}
+use Prim.Native.Nat.{_-_}
 use borrow.Author.Tests.{eq-eqb, ne-eqb, le-leb, lt-leb}
 use Rattle.tidying_laws.specs.Laws.{t2}
 use Rattle.tidying_fitting.specs.Fitting.{fits}
@@ -8,9 +7,6 @@ use Rattle.tidying_fitting.specs.Words.{onceOrNever, t2-words}
 use borrow.Author.Needs.{needs}
 use Rattle.tidying_fitting.proofs.quantifiers.once_or_never.Statement.{statement}
 use Rattle.tidying_fitting.proofs.quantifiers.once_or_never.Tie as tie
-use Rattle.tidying_fitting.proofs.quantifiers.once_or_never.Reads as reads
-use Rattle.tidying_fitting.proofs.quantifiers.once_or_never.Lts as lts
-use Rattle.tidying_fitting.proofs.own.Reads as own-reads
 
 own-requires : tie.Need-own-requires
 own-requires c κs = search needs

@@ -1,20 +1,15 @@
 use borrow.Author.Tests.{not-true, not-false}
-use mathlib.Core.Path.{_≡_, refl, sym, ap, _∙_}
+use mathlib.Core.Path.{refl}
 use native.Mathlib.Omega.{arith}
-use Prim.Native.Nat.{ℕ, _+_, _-_, _*_, _≤_, _<_}
-use lib.Dec.{eqb, leb}
+use Prim.Native.Nat.{_-_}
+use lib.Dec.{eqb}
 use Rattle.tidying_laws.specs.Laws.{t9}
 use Rattle.tidying_fitting.specs.Fitting.{fits}
 use Rattle.tidying_fitting.proofs.Told.{asked, quantified-passed, part-asked, on-quantifier, first-fails, first-passes}
 use Rattle.tidying_fitting.specs.Words.{isNested, nestedIn, ownOf, lazyWords, t9-words}
-use Rattle.meaning.specs.Limits.{noMaximum}
 use borrow.Author.Needs.{needs}
 use Rattle.tidying_fitting.proofs.quantifiers.option_of_option.Statement.{statement}
 use Rattle.tidying_fitting.proofs.quantifiers.option_of_option.Tie as tie
-use Rattle.tidying_fitting.proofs.quantifiers.option_of_option.Reads as reads
-use Rattle.tidying_fitting.proofs.quantifiers.option_of_option.Lts as lts
-use Rattle.tidying_fitting.proofs.quantifiers.nested.Reads as nested-reads
-use Rattle.tidying_fitting.proofs.own.Reads as own-reads
 
 nested-requires : tie.Need-nested-requires
 nested-requires c κs = search needs

@@ -1,6 +1,6 @@
 use borrow.Author.Needs.{needs}
 use native.Mathlib.Omega.{arith}
-use Prim.Native.Nat.{ℕ, _+_, _-_, _*_, _≤_, _<_}
+use Prim.Native.Nat.{ℕ, _+_, _-_}
 use mathlib.Core.List.{List, [], _∷_, _++_}
 use Rattle.meaning.specs.Node.{Node}
 use Rattle.tidying_fitting.specs.Parts.{Row}
@@ -9,10 +9,6 @@ use Rattle.tidying_fitting.proofs.Walked.{equals, last-asked, row-some,
 use Rattle.tidying_fitting.proofs.Walked.{repeat-first, repeat-more, repeat-found, repeat-over}
 use Rattle.tidying_fitting.proofs.series.repeats.Statement.{statement}
 use Rattle.tidying_fitting.proofs.series.repeats.Tie as tie
-use Rattle.tidying_fitting.proofs.series.repeats.Reads as reads
-use Rattle.tidying_fitting.proofs.series.repeats.Lts as lts
-use Rattle.tidying_fitting.proofs.series.same_part.Reads as same-part-reads
-use Rattle.tidying_fitting.proofs.start.Reads as start-reads
 
 abbrev Inv-loop : tie.InvT-loop
 Inv-loop table top items end₀ left₀ end left = (before : List ℕ) (front : List Node) (q : Node) → Row table top items before
