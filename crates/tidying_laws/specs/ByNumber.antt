@@ -5,9 +5,11 @@ use mathlib.Core.List.{List, _∷_}
 use Prim.Native.Nat.{ℕ, zero, suc, _≤_}
 use native.Mathlib.Decide.{decLe}
 use native.Mathlib.Omega.{arith}
-use lib.ListN.{length, getD, List·getD-eq-default}
+use lib.ListN.{length, List·getD-eq-default}
 use Rattle.meaning.specs.Node.{Node}
 use Rattle.tidying_laws.specs.List.{laws}
+use Rattle.tidying_laws.specs.Tidier.{lowest}
+use Rattle.tidying_laws.specs.Found.{nth, first-nth}
 
 -- The law that fits nothing.
 abbrev pub nothing : Node → Option Node
@@ -18,7 +20,7 @@ unfoldable pub lawCount : ℕ
 lawCount = length laws
 
 unfoldable pub lawOf : ℕ → Node → Option Node
-lawOf k = getD (nothing ∷ laws) k nothing
+lawOf k = nth nothing laws k
 
 abbrev pub IsLaw : ℕ → Type 0
 IsLaw k = (1 ≤ k) × (k ≤ lawCount)
@@ -41,6 +43,11 @@ is-law (suc k) x y e = (omega arith, go (decLe (suc k) lawCount))
     go : Dec (suc k ≤ lawCount) → suc k ≤ lawCount
     go (yes h) = h
     go (no h) = absurd (Option·none-ne-some y (sym (ap (λ f. f x) (no-law (suc k) (λ t. h (t .1)))) ∙ e))
+
+-- The lowest law that fits is the law of its number.
+pub law-at : (x y : Node) (k : ℕ) → lowest x ≡ some (k, y) → lawOf k x ≡ some y
+unfolding lowest lawOf
+law-at x y k e = first-nth (λ f. f x) nothing laws k y e .2
 
 -- A number that is none of 1 to n, as the last arm of a match knows it, is not from 1 to n.
 abbrev pub NoneOf : ℕ → ℕ → Type 0

@@ -3,9 +3,11 @@ use mathlib.Core.Path.{_≡_, refl, ap, subst, _∙_}
 use mathlib.Core.Option.{Option, none, some, Option·map, IsSome, map-eq-none-iff}
 use mathlib.Core.Option.{Option·none-ne-some, Option·some-ne-none, Option·some-injective}
 use mathlib.Core.List.{List, [], _∷_, _++_, map}
-use Prim.Native.Nat.{ℕ, suc, _+_}
+use Prim.Native.Nat.{ℕ, zero, suc, _+_, _-_, _≤_}
 use native.Mathlib.Omega.{arith}
-use lib.ListN.{length, length-append, length-map}
+use native.Mathlib.Numerals.{add-one}
+use lib.ListN.{length, getD, drop, length-append, length-map}
+use lib.Seq.{getD-append-add, drop-cons, drop-length}
 use Rattle.meaning.specs.Node.{Node, Node.empty, Node.bset, Node.assert, Node.group, Node.seq, Node.alt, Node.many}
 use Rattle.meaning.specs.Results.{orElse}
 use Rattle.meaning.specs.Flat.{Kind, Kind.sequence, Kind.alternation, Not, pair}
@@ -60,6 +62,49 @@ pub at-first : {A B : Type 0} (c : A → Option B) (n : ℕ) (l m : List A) (x :
 at-first c n [] m x b h e = rw e (ap (λ i. some (i, b)) (omega arith))
 at-first c n (y ∷ l) m x b h e = rw (h .0, at-first c (suc n) l m x b (h .1) e) (ap (λ i. some (i, b)) (omega arith))
 
+-- The element of a number, counted from 1; d where there is none. The first success is that of the element of its number.
+abbrev pub nth : {A : Type 0} → A → List A → ℕ → A
+nth d l k = getD (d ∷ l) k d
+
+pub first-nth : {A B : Type 0} (c : A → Option B) (d : A) (l : List A) (k : ℕ) (b : B) → firstAt c 1 l ≡ some (k, b)
+    → (1 ≤ k) × (k ≤ length l) × (c (nth d l k) ≡ some b)
+first-nth c d l k b e =
+    let f = first-at c 1 l k b e in
+    let at : k ≡ suc (length (f .front) + 0) = omega (arith, f .number) in
+    let here : nth d l k ≡ f .here
+    = ap (nth d l) at ∙ ap (λ m. getD m (length (f .front) + 0) d) (f .split)
+    ∙ getD-append-add (f .front) (f .here ∷ f .back) 0 d in (
+      omega arith,
+      omega (arith, ap length (f .split), length-append (f .front) (f .here ∷ f .back)),
+      ap c here ∙ f .success,
+    )
+
+-- A search from the element of a number on: one that does not succeed is passed, one that does is found, and past all is none.
+abbrev pub firstFrom : {A B : Type 0} → (A → Option B) → List A → ℕ → Option (ℕ × B)
+firstFrom c l k = firstAt c k (drop (k - 1) l)
+
+module _ {A B : Type 0} (c : A → Option B) (d : A) (l : List A) where
+  from-cons : (k : ℕ) → 1 ≤ k → k ≤ length l
+      → firstFrom c l k ≡ orElse (Option·map (λ b. (k, b)) (c (nth d l k))) (firstFrom c l (k + 1))
+  from-cons zero low high = absurd (omega arith)
+  from-cons (suc j) low high =
+      let here : suc j - 1 ≡ j = omega arith in
+      let next : suc j + 1 - 1 ≡ suc j = omega arith in
+      rw (here, next, drop-cons l j d (omega arith), add-one)
+
+  pub from-next : (k : ℕ) → 1 ≤ k → k ≤ length l → c (nth d l k) ≡ none → firstFrom c l k ≡ firstFrom c l (k + 1)
+  from-next k low high e =
+      from-cons k low high ∙ ap (λ o. orElse (Option·map (λ b. (k, b)) o) (firstFrom c l (k + 1))) e
+
+  pub from-here : (k : ℕ) → 1 ≤ k → k ≤ length l → (b : B) → c (nth d l k) ≡ some b → firstFrom c l k ≡ some (k, b)
+  from-here k low high b e =
+      from-cons k low high ∙ ap (λ o. orElse (Option·map (λ b. (k, b)) o) (firstFrom c l (k + 1))) e
+
+  pub from-end : (k : ℕ) → k ≡ length l + 1 → firstFrom c l k ≡ none
+  from-end k e =
+      let all : k - 1 ≡ length l = omega arith in
+      ap (firstAt c k) (ap (λ n. drop n l) all ∙ drop-length l)
+
 -- A search finds nothing exactly if nothing succeeds.
 first-none : {A B : Type 0} (c : A → Option B) (n : ℕ) (l : List A) → firstAt c n l ≡ none → Each (λ x. c x ≡ none) l
 first-none c n [] e = tt
@@ -90,11 +135,11 @@ pub done : (r : Node) → tidyStep r ≡ none → Done r
 unfolding tidyStep found lowest
 done r e = each-imp _ (λ p. Each (λ f. f (p .part) ≡ none) laws)
     (λ p f. first-none (λ f. f (p .part)) 1 laws (map-eq-none-iff _ (lowest (p .part)) .0 f)) (places none r)
-    (first-none _ 0 (places none r) (map-eq-none-iff _ (found r) .0 e))
+    (first-none _ 1 (places none r) (map-eq-none-iff _ (found r) .0 e))
 
 pub undone : (r : Node) → Done r → tidyStep r ≡ none
 unfolding tidyStep found lowest
-undone r h = map-eq-none-iff _ (found r) .1 (none-first _ 0 (places none r)
+undone r h = map-eq-none-iff _ (found r) .1 (none-first _ 1 (places none r)
     (each-imp (λ p. Each (λ f. f (p .part) ≡ none) laws) _
     (λ p f. map-eq-none-iff _ (lowest (p .part)) .1 (none-first (λ f. f (p .part)) 1 laws f)) (places none r) h))
 

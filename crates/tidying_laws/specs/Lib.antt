@@ -22,9 +22,9 @@ pub mod Words
 pub mod Fits
 pub mod Exact
 pub mod List
-pub mod ByNumber
 pub mod Tidier
 pub mod Found
+pub mod ByNumber
 pub mod Steps
 pub mod Within
 pub mod Tidy

@@ -70,7 +70,7 @@ places-keep t (many n e lazy r) p = let l : List Place = places none r in let s 
 
 found-kept : (r : Node) → Positive (groups r) → Ok (λ t. Kept r (t .1 .1)) (found r)
 unfolding found
-found-kept r p = ok-first (λ t. Kept r (t .1)) _ 0 (places none r)
+found-kept r p = ok-first (λ t. Kept r (t .1)) _ 1 (places none r)
     (each-imp (Keeps r) _ (λ o f. ok-map (λ t. Kept r (t .1)) (λ t. Kept (o .part) (t .1)) (λ t. (t .0, o .put (t .1)))
     (λ t h. f (t .1) h) (lowest (o .part)) (lowest-kept (o .part))) (places none r) (places-keep none r p))
 

@@ -48,9 +48,9 @@ firstAt c n (x ∷ l) = let later = firstAt c (suc n) l in orElse (Option·map (
 unfoldable pub lowest : Node → Option (ℕ × Node)
 lowest r = firstAt (λ f. f r) 1 laws
 
--- The first place at which a law fits: its number, from 0, the lowest law there, and what the pattern becomes.
+-- The first place at which a law fits: its number, from 1, the lowest law there, and what the pattern becomes.
 unfoldable pub found : Node → Option (ℕ × (ℕ × Node))
-found r = firstAt (λ p. Option·map (λ t. (t .0, p .put (t .1))) (lowest (p .part))) 0 (places none r)
+found r = firstAt (λ p. Option·map (λ t. (t .0, p .put (t .1))) (lowest (p .part))) 1 (places none r)
 
 -- What one step makes of a pattern.
 unfoldable pub tidyStep : Node → Option Node

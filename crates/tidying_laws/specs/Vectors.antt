@@ -125,9 +125,9 @@ stay = refl
 
 -- The place and the law that a search ends at: of (?:a*)*|b|b the third part, by T5, and then the fifth, by T6;
 -- of a|ab|c|cd the last, by T8 at its leftmost run.
-steps : (found (alt (star false (star false a)) (alt b b)) ≡ some (2, (5, alt (star false a) (alt b b))))
-    × (found (alt (star false a) (alt b b)) ≡ some (4, (6, alt (star false a) b)))
-    × (found (alt a (alt (seq a b) (alt c (seq c d)))) ≡ some (8, (8, alt (seq a (alt empty b)) (alt c (seq c d)))))
+steps : (found (alt (star false (star false a)) (alt b b)) ≡ some (3, (5, alt (star false a) (alt b b))))
+    × (found (alt (star false a) (alt b b)) ≡ some (5, (6, alt (star false a) b)))
+    × (found (alt a (alt (seq a b) (alt c (seq c d)))) ≡ some (9, (8, alt (seq a (alt empty b)) (alt c (seq c d)))))
 unfolding found lowest laws places parts same decList decOption ℕ-discrete
     groupFree groups filled distinct possible run glues share noBytes has bit
 steps = (refl, refl, refl)
