@@ -18,7 +18,7 @@ use Rattle.table.specs.Laws.{inner, operandOf, lastOf, of-kind}
 use Rattle.table.specs.Laws.{Kinded, Kinded.nothing, Kinded.set, Kinded.assertion, Kinded.grouped, Kinded.items, Kinded.choices}
 use Rattle.table.specs.Laws.{Kinded.quantified}
 use Rattle.table.specs.Stands.{Series}
-use Rattle.table.specs.Roots.{some-records, few-records, inside, root-kind, root-operand, root-records, root-items, root-last}
+use Rattle.table.specs.Roots.{some-records, few-records, root-kind, root-operand, root-records, root-items, root-last, inside}
 use Rattle.table.specs.Roots.{root-set, some-last, last-ends, shorter}
 use Rattle.code_rows.specs.Emits.{Part}
 

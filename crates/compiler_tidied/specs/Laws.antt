@@ -18,9 +18,9 @@ use Rattle.table.specs.Derived.{rootOf}
 use Rattle.table.specs.Roots.{root-derived, some-records, few-records}
 use Rattle.table.specs.declared.Derived.{Derived}
 use Rattle.tidying_laws.specs.Around.{Around, fill}
-use Rattle.tidying_laws.specs.Kept.{Each}
+use Rattle.meaning.specs.All.{All}
 use Rattle.tidying_laws.specs.Within.{Stands}
-use Rattle.tidying_laws.specs.Words.{words}
+use Rattle.tidying_laws.specs.List.{words}
 use Rattle.tidying_laws.specs.Tidier.{tidy}
 use Rattle.tidying_laws.specs.Tidy.{tidy-rows, tidy-numbers, tidy-proper, tidy-clean}
 use Rattle.tidying_shapes.specs.Parse.{LimitedAll}
@@ -199,7 +199,7 @@ pub record Passed (s table code : List ℕ) (n g : ℕ) : Type 1 where
   pub rows-are : n ≡ rowsNeeded (tidy node)
   pub fewer : n ≤ rowsNeeded node
   pub table-holds : tidiedTableAt s table code ≡ tableOf (tidy node) (length table)
-  pub clean : (a : Around) (q : Node) → fill a q ≡ tidy node → Stands none a q → Each (λ W. W q → ⊥) words
+  pub clean : (a : Around) (q : Node) → fill a q ≡ tidy node → Stands none a q → All (λ W. W q → ⊥) words
 
 pub compiled-passes : (s table code : List ℕ) (n g : ℕ) → Bytes s → tidiedCompilation s table code ≡ Rows n g
     → Passed s table code n g

@@ -19,10 +19,10 @@ use Rattle.meaning.specs.Numbering.{Numbers}
 use Rattle.machine.specs.Replies.{Reply, Reply.found, Reply.missing, Reply.refused, answerOf, spans}
 use Rattle.tidying_laws.specs.Alike.{Alike}
 use Rattle.tidying_laws.specs.Around.{Around, fill}
-use Rattle.tidying_laws.specs.Kept.{Each}
+use Rattle.meaning.specs.All.{All}
 use Rattle.tidying_laws.specs.Void.{fair}
 use Rattle.tidying_laws.specs.Within.{Stands}
-use Rattle.tidying_laws.specs.Words.{words}
+use Rattle.tidying_laws.specs.List.{words}
 use Rattle.tidying_laws.specs.Tidier.{tidy}
 use Rattle.tidying_laws.specs.Tidy.{tidy-alike, tidy-numbers, tidy-proper, tidy-rows, tidy-match, tidy-search}
 use Rattle.reading_items.specs.Facts.{fair-proper}
@@ -54,7 +54,7 @@ pub record Neat (s table code : List ℕ) (n g : ℕ) : Type 1 where
   pub table-holds : tidiedTableAt s table code ≡ tableOf (tidy node) (length table)
   pub alike : Alike node (tidy node)
   pub fewer : n ≤ rowsNeeded node
-  pub clean : (a : Around) (q : Node) → fill a q ≡ tidy node → Stands none a q → Each (λ W. W q → ⊥) words
+  pub clean : (a : Around) (q : Node) → fill a q ≡ tidy node → Stands none a q → All (λ W. W q → ⊥) words
 
 -- Not too many rows, and then the program.
 emits : (n : ℕ) (b : Bool) (x : Emission) → cond b TooMany x ≡ Emitted n → (b ≡ false) × (x ≡ Emitted n)

@@ -15,7 +15,8 @@ use Rattle.tidying_laws.specs.Groups.{groups, groupFree}
 use Rattle.tidying_laws.specs.Void.{noBytes}
 use Rattle.tidying_laws.specs.Equal.{same, decList, decOption}
 use Rattle.tidying_laws.specs.Measures.{weight}
-use Rattle.tidying_laws.specs.Laws.{t1, t2, t3, t4, t5, t6, t7, t8, t9, laws, filled, distinct, possible, run, glues, share}
+use Rattle.tidying_laws.specs.List.{laws}
+use Rattle.tidying_laws.specs.Laws.{t1, t2, t3, t4, t5, t6, t7, t8, t9, filled, distinct, possible, run, glues, share}
 use Rattle.tidying_laws.specs.Tidier.{places, lowest, found, tidyStep, tidies, tidy}
 use Rattle.reading_atoms.specs.Braces.{numberGo, numberAt, bracesAt, quantifierAt}
 use Rattle.reading_items.specs.Reading.{openingAt, itemBy, itemAt, sequenceGo, alternativesGo, reading}

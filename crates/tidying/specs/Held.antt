@@ -15,7 +15,6 @@ use Rattle.table.specs.Stands.{Stands}
 use Rattle.tidying_laws.specs.Groups.{positive}
 use Rattle.tidying_laws.specs.Charge.{charge}
 use Rattle.tidying_laws.specs.Tidier.{found, tidy}
-use Rattle.tidying_shapes.specs.Parse.{LimitedAll}
 use Rattle.tidying.specs.Standing.{Whole}
 
 -- A pattern whose records are the first n of a table, with room for what it is tidied to: it was read from p bytes or fewer,
@@ -24,7 +23,6 @@ pub record Held (table : List ℕ) (n : ℕ) (r : Node) (g p : ℕ) : Type 0 whe
   pub stands : Stands table n (records r)
   pub flat : Flat r
   pub proper : Proper r
-  pub limited : LimitedAll r
   pub numbers : Numbers 1 r g
   pub light : charge r ≤ p
   pub short : p ≤ patternLimit
@@ -61,7 +59,4 @@ pub record Tidies (table table′ : List ℕ) (n n′ : ℕ) : Type 0 where
 
 -- Every part of such a pattern can be told by its records.
 pub held-whole : {table : List ℕ} {n g p : ℕ} {r : Node} → Held table n r g p → Whole r
-held-whole {g = g} {r = r} h = record {
-  sound = record { proper = h .proper; limited = h .limited; positive = positive r 1 g (omega arith) (h .numbers) };
-  flat = h .flat;
-}
+held-whole h = record { proper = h .proper; flat = h .flat }

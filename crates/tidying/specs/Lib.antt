@@ -1,4 +1,3 @@
-pub mod Limits
 pub mod Standing
 pub mod Search
 pub mod Held

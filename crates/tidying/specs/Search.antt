@@ -10,13 +10,13 @@ use lib.ListN.{length, drop}
 use lib.Seq.{drop-cons, drop-length}
 use Rattle.meaning.specs.Node.{Node, Node.empty}
 use Rattle.meaning.specs.Results.{orElse}
-use Rattle.tidying_laws.specs.Laws.{laws}
+use Rattle.tidying_laws.specs.List.{laws}
 use Rattle.tidying_laws.specs.Tidier.{Place, itself, places, firstAt, lowest, found}
 use Rattle.tidying_fitting.specs.Fitting.{isSome, lawOf, lawCount, fits}
-use Rattle.tidying_fitting.specs.Parts.{SomePart, Tells}
+use Rattle.tidying_fitting.specs.Parts.{Tells}
 use Rattle.tidying.specs.Standing.{Whole, placeAt, place-count, place-ends}
 use Rattle.table.specs.Table.{records}
-use Rattle.table.specs.Stands.{Stands}
+use Rattle.table.specs.Stands.{Stands, SomePart}
 use Rattle.tidying.specs.declared.Found.{Found}
 use Rattle.tidying.specs.declared.Found.the-variants.{At, Nothing}
 

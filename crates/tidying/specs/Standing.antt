@@ -7,17 +7,15 @@ use Prim.Native.Nat.{ℕ, zero, suc, _+_, _*_, _<_}
 use native.Mathlib.Omega.{arith}
 use lib.ListN.{length, getD, take, length-append, length-map}
 use lib.Seq.{take-at, take-take}
-use Rattle.meaning.specs.Node.{Node, Node.empty, Node.bset, Node.assert, Node.group, Node.seq, Node.alt, Node.many}
+use Rattle.meaning.specs.Node.{Node, Node.empty, Node.bset, Node.assert, Node.group, Node.seq, Node.alt, Node.many, Proper}
 use Rattle.meaning.specs.Flat.{Kind, Kind.sequence, Kind.alternation, pair, Flat, glue, flat-spreads, proper-spreads}
 use Rattle.table.specs.Table.{recordWords, unless, recordsIn, recordCount, ownRecord, wordsIn, records}
 use Rattle.table.specs.Laws.{long}
-use Rattle.table.specs.Stands.{Stands}
+use Rattle.table.specs.Stands.{Stands, Ends}
 use Rattle.table.specs.Roots.{stands-long}
 use Rattle.tidying_laws.specs.Groups.{groups, Positive, positive-both}
 use Rattle.tidying_laws.specs.Measures.{groups-adds}
 use Rattle.tidying_laws.specs.Tidier.{Place, itself, inside, whole, places}
-use Rattle.tidying_fitting.specs.Parts.{Sound, Ends}
-use Rattle.tidying.specs.Limits.{limited-spreads}
 
 -- Elements one after the other, each with its number, counted from n.
 abbrev pub Numbered : {A : Type 0} → (A → ℕ → Type 0) → ℕ → List A → Type 0
@@ -36,35 +34,25 @@ numbered-at P d n [] h i m g e = absurd (omega arith)
 numbered-at P d n (x ∷ l) h zero m g e = subst (P x) (omega arith) (h .0)
 numbered-at P d n (x ∷ l) h (suc i) m g e = numbered-at P d (suc n) l (h .1) i m (omega arith) (omega arith)
 
--- A pattern of which every part can be told by its records, and its sequences and alternations are flat.
+-- A proper pattern whose sequences and alternations are flat.
 pub record Whole (r : Node) : Type 0 where
-  pub sound : Sound r
+  pub proper : Proper r
   pub flat : Flat r
 
 -- Its parts are such patterns.
 whole-pair : (k : Kind) (r q : Node) → Whole (pair k r q) → Whole r × Whole q
 whole-pair k r q h =
-    let p = proper-spreads k .split r q (h .sound .proper) in
-    let l = limited-spreads k .split r q (h .sound .limited) in
-    let g = positive-both (groups r) (groups q) (subst Positive (groups-adds k .both r q) (h .sound .positive)) in
+    let p = proper-spreads k .split r q (h .proper) in
     let f = flat-spreads k .split r q (h .flat) in (
-      record { sound = record { proper = p .0; limited = l .0; positive = g .0 }; flat = f .0 .1 },
-      record { sound = record { proper = p .1; limited = l .1; positive = g .1 }; flat = f .1 },
+      record { proper = p .0; flat = f .0 .1 },
+      record { proper = p .1; flat = f .1 },
     )
 
 whole-group : (k : ℕ) (r : Node) → Whole (group k r) → Whole r
-unfolding groups
-whole-group k r h = record {
-  sound = record { proper = h .sound .proper; limited = h .sound .limited; positive = h .sound .positive .1 };
-  flat = h .flat;
-}
+whole-group k r h = record { proper = h .proper .1; flat = h .flat }
 
 whole-many : (n : ℕ) (e : Option ℕ) (lazy : Bool) (r : Node) → Whole (many n e lazy r) → Whole r
-unfolding groups
-whole-many n e lazy r h = record {
-  sound = record { proper = h .sound .proper; limited = h .sound .limited .1; positive = h .sound .positive };
-  flat = h .flat;
-}
+whole-many n e lazy r h = record { proper = h .proper .1; flat = h .flat }
 
 -- A part among the words of a pattern, and how many of them there are up to its end.
 pub record Ended (t : Option Kind) (r : Node) (p : Place) (i : ℕ) : Type 0 where
@@ -81,7 +69,7 @@ ends-here t r i h e n = record {
   before = [];
   after = [];
   split = e ∙ sym (append-nil (records r));
-  number = omega (arith, long r (h .sound .proper));
+  number = omega (arith, long r (h .proper));
   part-whole = h;
 }
 
@@ -125,7 +113,7 @@ wrap-placed t r wrap l h words count (n, g) = (
       (ends-here t (wrap r) (recordCount r) h (words t ∙ sym (words none)) (omega (arith, count none)), tt),
 )
 
--- The parts inside the first part of a row, those of the rest, and the row itself unless it goes on.
+-- The parts inside the first part of a series, those of the rest, and the series itself unless it goes on.
 abbrev closing : Option Kind → Kind → Node → List ℕ
 closing t k r = unless t k [] (ownRecord r)
 
@@ -166,7 +154,7 @@ row-placed t k a q l m h (n, f) (o, g) =
     let rest : Numbered (Ended t r) (recordCount a) (map (inside (pair k a)) m)
     = all-inside (some k) t q r (pair k a) (records a) (closing t k r) (recordCount a)
     (pair-words t k a q ∙ append-assoc (records a) (wordsIn (some k) q) (closing t k r))
-    (long a (whole-pair k a q h .0 .sound .proper)) 0 (recordCount a) (omega arith) m g in (
+    (long a (whole-pair k a q h .0 .proper)) 0 (recordCount a) (omega arith) m g in (
       simp (length-append, length-map) (omega (arith, pair-count t k a q, last .0)),
       numbered-append (Ended t r) 0 (recordCount a) (map (inside (λ p. glue k p q)) l) _ first (simp length-map (omega arith))
           (numbered-append (Ended t r) (recordCount a) here (map (inside (pair k a)) m) _ rest (simp length-map (omega arith))
@@ -194,7 +182,7 @@ placeAt r i = getD (places none r) i (itself empty)
 -- There is a place for each record of a pattern that stands in a table, and the part there ends with that record.
 module _ {table : List ℕ} {n : ℕ} (r : Node) (h : Whole r) (stands : Stands table n (records r)) where
   pub place-count : length (places none r) ≡ n
-  place-count = omega (arith, placed none r h .0, stands-long stands, long r (h .sound .proper))
+  place-count = omega (arith, placed none r h .0, stands-long stands, long r (h .proper))
 
   module _ (i : ℕ) (within : i < n) where
     pub place-ended : Ended none r (placeAt r i) i
@@ -215,7 +203,7 @@ module _ {table : List ℕ} {n : ℕ} (r : Node) (h : Whole r) (stands : Stands 
                 ∙ take-at first (e .after) (recordWords * (i + 1)) size;
             room = omega (arith, stands .room);
           };
-          sound = e .part-whole .sound;
+          proper = e .part-whole .proper;
         }
 
     pub place-flat : Flat (placeAt r i .part)

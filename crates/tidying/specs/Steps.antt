@@ -1,4 +1,4 @@
--- A step of the tidier over a table: a law is carried out at the part that was found, what it makes settles in the row that it
+-- A step of the tidier over a table: a law is carried out at the part that was found, what it makes settles in the series that it
 -- stands in, and the derived words are written anew.
 use mathlib.Core.Path.{_≡_, sym, ap, subst, _∙_}
 use mathlib.Core.Option.{Option, none, some, Option·map, Option·none-ne-some, Option·some-injective}
@@ -13,7 +13,7 @@ use Rattle.meaning.specs.Results.{concatMap}
 use Rattle.table.specs.Table.{recordWords}
 use Rattle.table.specs.Laws.{inner}
 use Rattle.tidying_laws.specs.Charge.{records-bound}
-use Rattle.tidying_laws.specs.Laws.{laws}
+use Rattle.tidying_laws.specs.List.{laws}
 use Rattle.tidying_laws.specs.Tidier.{Place, itself, places, lowest, found, tidyStep}
 use Rattle.tidying_laws.specs.Found.{First, first-at, places-records}
 use Rattle.tidying_laws.specs.Tidy.{Step, step}
@@ -22,7 +22,6 @@ use Rattle.tidying_shapes.specs.Skeleton.{alone as in-row}
 use Rattle.tidying_shapes.specs.Tokens.{Says}
 use Rattle.tidying_shapes.specs.Laws.{says-length}
 use Rattle.tidying_shapes.specs.Told.{skeleton-count, stands-say}
-use Rattle.tidying_shapes.specs.Parse.{LimitedAll}
 use Rattle.tidying_shapes.specs.Spots.{Parent, Parent.top, Parent.alone, Parent.among, rowOf, behind, Spot}
 use Rattle.tidying_shapes.specs.Placed.{Spots, placed}
 use Rattle.tidying_shapes.specs.Replaced.{spot-tokens, spot-unsettled, spot-settled}
@@ -32,7 +31,6 @@ use Rattle.tidying_fitting.specs.Fitting.{lawOf}
 use Rattle.tidying_rewriting.specs.Rewriting.{Fitting, SomeFitting, Rewrites, count}
 use Rattle.tidying.specs.Standing.{Whole, placeAt, place-count, place-ended, place-ends, place-flat}
 use Rattle.tidying.specs.Search.{choice}
-use Rattle.tidying.specs.Limits.{step-limited}
 use Rattle.tidying.specs.Held.{Held, held-whole}
 
 -- What a place found says: the part there, what the law makes of it, and what the pattern becomes.
@@ -84,12 +82,12 @@ spots-at n [] h i m g e = absurd (omega arith)
 spots-at {r} n (p ∷ l) h zero m g e = subst (λ (x : ℕ). Spot none r p x) (omega arith) (h .0)
 spots-at n (p ∷ l) h (suc i) m g e = spots-at (suc n) l (h .1) i m (omega arith) (omega arith)
 
--- A pattern alone has at most one token more than in a row.
+-- A pattern alone has at most one token more than in a series.
 row-less : (k : Kind) (y : Node) → length (skeleton y) ≤ length (skeletonIn (some k) y) + 1
 row-less k = by-parts k (λ y l. length (skeleton y) ≤ length (skeletonIn (some k) y) + 1)
     (λ r h. omega (arith, ap length (in-row k r h .0)))
     (λ r q l e.
-    let row : length (skeletonIn (some k) (pair k r q)) ≡ length (skeleton r) + length (skeletonIn (some k) q)
+    let series : length (skeletonIn (some k) (pair k r q)) ≡ length (skeleton r) + length (skeletonIn (some k) q)
     = ap length (pair-row k r q) ∙ length-append (skeleton r) (skeletonIn (some k) q) in
     let own : length (skeleton (pair k r q)) ≡ length (skeleton r) + (length (skeletonIn (some k) q) + 1)
     = ap length (pair-in none k r q) ∙ simp length-append (omega arith) in
@@ -122,9 +120,6 @@ module _ {table : List ℕ} {n g p : ℕ} {r q : Node} {part law : ℕ} (h : Hel
 
   next : Step r g q
   next = step r g (h .numbers) q steps
-
-  next-limited : LimitedAll q
-  next-limited = step-limited r q steps (h .limited)
 
   -- which takes at most two records for each byte and one, so that with one more there is room,
   next-count : length (skeleton q) ≤ 2 * p + 1
@@ -204,7 +199,6 @@ module _ {table : List ℕ} {n g p : ℕ} {r q : Node} {part law : ℕ} (h : Hel
 
     unsettled : Unsettled table₁ n₁ (part + n₁ - n) left (fit .result) (spot .parent)
     unsettled = spot-unsettled spot (fit .result) says₁ (root-at .1) (rw (fit .becomes) (next .proper (h .proper)))
-        (rw (fit .becomes) next-limited)
         (rw (fit .becomes) (omega (arith, skeleton-count q (next .proper (h .proper)), next-count, h .short)))
 
     pub some-unsettled : SomeUnsettled table₁ n₁ (part + n₁ - n)
@@ -218,7 +212,6 @@ module _ {table : List ℕ} {n g p : ℕ} {r q : Node} {part law : ℕ} (h : Hel
           record {
             says = says₂;
             proper = next .proper (h .proper);
-            limited = next-limited;
             few = omega (arith, says-length says₂, next-count, h .short);
           }
 
@@ -230,7 +223,6 @@ module _ {table : List ℕ} {n g p : ℕ} {r q : Node} {part law : ℕ} (h : Hel
         stands = f .by q said;
         flat = next .flat (h .flat);
         proper = next .proper (h .proper);
-        limited = next-limited;
         numbers = next .numbers;
         light = omega (arith, next .light, h .light);
         short = h .short;

@@ -71,7 +71,7 @@ unfolding patternIn parse
 pattern-in {r = r} h =
     ap (λ ts. firstPart (parse [] ts)) (stands-say r (h .proper) (h .stands) .tokens ∙ sym (append-nil (skeleton r))
     ∙ sym (append-nil (skeleton r ++ [])))
-    ∙ ap firstPart (parse-skeletons (r ∷ []) (h .proper, tt) (h .limited, tt) [] [])
+    ∙ ap firstPart (parse-skeletons (r ∷ []) (h .proper, tt) [] [])
 
 module _ {table : List ℕ} {n part law : ℕ} (finds : Finds (At part law) table n) where
   pub some-found : SomeHeld table n → SomeFound table n part law
@@ -123,7 +123,6 @@ held-zeros {table} {table′} {n} h e =
       };
       flat = h .flat;
       proper = h .proper;
-      limited = h .limited;
       numbers = h .numbers;
       light = h .light;
       short = h .short;

@@ -1,18 +1,19 @@
 -- Two parts are equal exactly if their records are, word for word. Assumes nothing.
 use mathlib.Core.Path.{_≡_, refl, sym, ap, _∙_}
 use mathlib.Core.Bool.{Bool, true, false, false≢true}
-use mathlib.Core.List.{List, [], _∷_, _++_}
-use Prim.Native.Nat.{ℕ, zero, suc, _+_, _-_, _*_, _≤_, _<_}
+use mathlib.Core.List.{List, _++_}
+use Prim.Native.Nat.{ℕ, _+_, _-_, _*_, _≤_, _<_}
 use native.Mathlib.Omega.{arith}
 use lib.ListN.{length, getD, length-append}
 use lib.Seq.{getD-take, getD-append-add, ext-getD}
-use Rattle.meaning.specs.Node.{Node, Proper}
+use Rattle.meaning.specs.Node.{Node}
 use Rattle.table.specs.Table.{recordWords, recordCount, records}
 use Rattle.table.specs.Laws.{long}
 use Rattle.table.specs.Roots.{stands-long}
 use Rattle.tidying_shapes.specs.Told.{records-injective}
 use Rattle.tidying_laws.specs.Equal.{same, same-eq, same-refl}
-use Rattle.tidying_fitting.specs.Parts.{Sound, Ends, SomePart, Tells, TellsBoth, Compares, Room, room}
+use Rattle.table.specs.Stands.{Ends, SomePart}
+use Rattle.tidying_fitting.specs.Parts.{Tells, TellsBoth, Compares, room}
 use Rattle.tidying_fitting.specs.Words.{startOf, same-test}
 
 -- The words of a part's records, in the table.
@@ -22,7 +23,7 @@ block : {table : List ℕ} {top : ℕ} {before : List ℕ} (r : Node) → Ends t
 block {table} {top} {before} r p i h =
     let long-before = stands-long (p .stands) in
     let whole = length-append before (records r) in
-    let own = long r (p .sound .proper) in
+    let own = long r (p .proper) in
     let at : recordWords * (top - recordCount r) + i ≡ length before + i = omega arith in
     sym (getD-take (recordWords * top) table (recordWords * (top - recordCount r) + i) 0 (omega arith))
     ∙ ap (λ l. getD l (recordWords * (top - recordCount r) + i) 0) (p .stands .below)
@@ -74,12 +75,12 @@ module _ {table : List ℕ} {one other from back : ℕ} (s : Tells from table on
           (recordWords * back + i) 0)
           → same p q ≡ true
       equal p q before before′ hp hq a d count words h =
-          let lp = long p (hp .sound .proper) in
-          let lq = long q (hq .sound .proper) in
+          let lp = long p (hp .proper) in
+          let lq = long q (hq .proper) in
           let all : records p ≡ records q = ext-getD 0 (records p) (records q) (omega arith) (λ i l.
           sym (block p hp i (omega arith)) ∙ ap (λ n. getD table (recordWords * n + i) 0) (sym a) ∙ h i (omega arith)
           ∙ ap (λ n. getD table (recordWords * n + i) 0) d ∙ block q hq i (omega arith)) in
-          rw (records-injective p q (hp .sound .proper) (hp .sound .limited) (hq .sound .proper) (hq .sound .limited) all)
+          rw (records-injective p q (hp .proper) (hq .proper) all)
           (same-refl q)
 
       differ : (p q : Node) → p ≡ q → (before before′ : List ℕ) → Ends table one before p → Ends table other before′ q

@@ -1,24 +1,23 @@
--- From what is found in a row to what is told of the law that looks for it. Assumes nothing.
-use mathlib.Core.Path.{_≡_, refl, sym, ap, subst, _∙_}
+-- From what is found in a series to what is told of the law that looks for it. Assumes nothing.
+use mathlib.Core.Path.{_≡_, sym, ap, subst, _∙_}
 use mathlib.Core.Bool.{Bool, true, false, not, _&&_, _||_}
-use mathlib.Core.Option.{none}
-use mathlib.Core.List.{List, [], _∷_}
-use Prim.Native.Nat.{ℕ, zero, suc, _+_, _-_, _*_, _≤_, _<_}
-use native.Mathlib.Omega.{arith}
-use native.Mathlib.Decide.{decLe}
-use lib.ListN.{length, getD, List·getD-eq-default}
+use mathlib.Core.List.{List, []}
+use Prim.Native.Nat.{ℕ, _-_}
 use lib.Dec.{eqb}
 use borrow.Author.Tests.{eq-eqb, ne-eqb}
 use Rattle.meaning.specs.Node.{Node, hi}
 use Rattle.table.specs.Table.{recordCount}
 use Rattle.table.specs.Laws.{inner, kindOf}
-use Rattle.tidying_laws.specs.Groups.{groupFree}
+use Rattle.tidying_laws.specs.Groups.{groupFree, proper-positive}
 use Rattle.tidying_laws.specs.Alternatives.{past}
-use Rattle.tidying_laws.specs.Laws.{isEmpty, laws}
-use Rattle.tidying_fitting.specs.Fitting.{isSome, lawCount, lawOf, fits}
-use Rattle.tidying_fitting.specs.Parts.{Sound, Ends, Tells, TellsLast, last-ends}
+use Rattle.tidying_laws.specs.ByNumber.{lawOf, IsLaw, no-law}
+use Rattle.tidying_laws.specs.Laws.{isEmpty, t7}
+use Rattle.tidying_fitting.specs.Fitting.{isSome, fits}
+use Rattle.table.specs.Stands.{Ends}
+use Rattle.table.specs.Roots.{last-ends}
+use Rattle.tidying_fitting.specs.Parts.{Tells, TellsLast}
 use Rattle.tidying_fitting.specs.Words.{ownOf, free-highest, empty-kind}
-use Rattle.tidying_fitting.specs.Places.{leftmost, endOf}
+use Rattle.tidying_fitting.specs.Places.{leftmost}
 use Rattle.tidying_fitting.specs.Marks.{repeats, goes, marks, markedEnd, hasMarked, t7-marked}
 use Rattle.tidying_fitting.specs.declared.Record.{Record}
 use Rattle.tidying_fitting.specs.declared.Mark.{Mark}
@@ -33,22 +32,22 @@ module _ {table : List ℕ} {top : ℕ} where
   -- T6: a part with a group stays, and one without goes if it equals an earlier one.
   no-group : {o : Record} → Tells o table top ownOf → (before : List ℕ) (r : Node) → Ends table top before r → groupFree r ≡
       eqb (o .highest) 0
-  no-group t before r p = free-highest r (p .sound .positive) ∙ sym (ap (λ d. eqb (d .highest) 0) (t .by before r p))
+  no-group t before r p = free-highest r (proper-positive r (p .proper)) ∙ sym (ap (λ d. eqb (d .highest) 0) (t .by before r p))
 
   pub grouped-told : (items : ℕ) {o : Record} → Tells o table top ownOf → (o .highest ≡ 0 → ⊥)
       → TellsLast false table top items (λ front q. goes (past front []) q)
   grouped-told items {o} t h = record {
-    by = λ before front q row.
-        sym (ap (λ b. b && repeats (past front []) q) (no-group t _ q (last-ends front q row) ∙ ne-eqb (o .highest) 0 h));
+    by = λ before front q series.
+        sym (ap (λ b. b && repeats (past front []) q) (no-group t _ q (last-ends front q series) ∙ ne-eqb (o .highest) 0 h));
   }
 
   pub ungrouped-told : {items : ℕ} {o : Record} → Tells o table top ownOf → o .highest ≡ 0 → {b : Bool}
       → TellsLast b table top items (λ front q. repeats (past front []) q) → TellsLast b table top items
       (λ front q. goes (past front []) q)
   ungrouped-told {items} {o} t h u = record {
-    by = λ before front q row.
-        u .by before front q row
-        ∙ sym (ap (λ b. b && repeats (past front []) q) (no-group t _ q (last-ends front q row) ∙ eq-eqb (o .highest) 0 h));
+    by = λ before front q series.
+        u .by before front q series
+        ∙ sym (ap (λ b. b && repeats (past front []) q) (no-group t _ q (last-ends front q series) ∙ eq-eqb (o .highest) 0 h));
   }
 
   -- A part of another kind has none, and one of the kind has one exactly if the walk found it.
@@ -72,26 +71,26 @@ module _ {table : List ℕ} {top : ℕ} where
 
   -- T7: among alternatives, or among the items of a sequence without groups.
   module _ {a : Bool} (t : Tells a table top (hasMarked 6 Void)) where
-    alternatives : (r : Node) (before : List ℕ) → Ends table top before r → fits 7 r ≡
+    alternatives : (r : Node) (before : List ℕ) → Ends table top before r → fits t7 r ≡
         (a || (hasMarked 5 Void r && eqb (hi r) 0))
     alternatives r before p =
-        t7-marked r (p .sound) ∙ ap (λ b. b || (hasMarked 5 Void r && eqb (hi r) 0)) (sym (t .by before r p))
+        t7-marked r (p .proper) ∙ ap (λ b. b || (hasMarked 5 Void r && eqb (hi r) 0)) (sym (t .by before r p))
 
-    pub void-alternative : a ≡ true → Tells true table top (fits 7)
+    pub void-alternative : a ≡ true → Tells true table top (fits t7)
     void-alternative e = record {
       by = λ before r p. sym (alternatives r before p ∙ ap (λ b. b || (hasMarked 5 Void r && eqb (hi r) 0)) e);
     }
 
     module _ (e : a ≡ false) {b : Bool} (u : Tells b table top (hasMarked 5 Void)) where
-      items : (r : Node) (before : List ℕ) → Ends table top before r → fits 7 r ≡ (b && eqb (hi r) 0)
+      items : (r : Node) (before : List ℕ) → Ends table top before r → fits t7 r ≡ (b && eqb (hi r) 0)
       items r before p =
           alternatives r before p ∙ ap (λ b. b || (hasMarked 5 Void r && eqb (hi r) 0)) e ∙ ap (λ b. b && eqb (hi r) 0)
           (sym (u .by before r p))
 
-      pub no-void : b ≡ false → Tells false table top (fits 7)
+      pub no-void : b ≡ false → Tells false table top (fits t7)
       no-void f = record { by = λ before r p. sym (items r before p ∙ ap (λ b. b && eqb (hi r) 0) f) }
 
-      pub void-item : b ≡ true → {o : Record} → Tells o table top ownOf → Tells (eqb (o .highest) 0) table top (fits 7)
+      pub void-item : b ≡ true → {o : Record} → Tells o table top ownOf → Tells (eqb (o .highest) 0) table top (fits t7)
       void-item f t = record {
         by = λ before r p.
             ap (λ d. eqb (d .highest) 0) (t .by before r p) ∙ sym (items r before p ∙ ap (λ b. b && eqb (hi r) 0) f);
@@ -104,24 +103,10 @@ pub as-mark : {table : List ℕ} {top items : ℕ} {b : Bool} {mark : Mark} (v :
 as-mark {table} {top} {items} {b} v e t =
     subst (λ (m : Mark). TellsLast b table top items (λ front q. marks m (past front []) q)) (sym e) t
 
--- What is told of a law is told of its number.
-pub as-law : {table : List ℕ} {top : ℕ} {b : Bool} {k : ℕ} (v : ℕ) → k ≡ v → Tells b table top (fits v) → Tells b table top
-    (fits k)
-as-law {table} {top} {b} v e t = subst (λ (k : ℕ). Tells b table top (fits k)) (sym e) t
+-- What is told of a law is told of its number, and of a number that no law has that it fits nothing.
+pub as-law : {table : List ℕ} {top : ℕ} {b : Bool} {k : ℕ} (v : ℕ) → k ≡ v → Tells b table top (fits (lawOf v))
+    → Tells b table top (fits (lawOf k))
+as-law {table} {top} {b} v e t = subst (λ (k : ℕ). Tells b table top (fits (lawOf k))) (sym e) t
 
--- A number up to the next one that is not that one.
-pub below : {k : ℕ} (n : ℕ) → (k ≡ suc n → ⊥) → k ≤ suc n → k ≤ n
-below n h l = omega arith
-
--- A number that is not a law's is 0 or above their number.
-pub no-law : {table : List ℕ} {top : ℕ} (k : ℕ) → (0 < k → k ≤ lawCount → ⊥) → Tells false table top (fits k)
-unfolding fits lawOf lawCount
-no-law k h = record { by = λ before r p. ap (λ f. isSome (f r)) (sym (go (decLe k (length laws)))) }
-  where
-    at-zero : (k : ℕ) → (0 < k → ⊥) → lawOf k ≡ (λ r. none)
-    at-zero zero h = refl
-    at-zero (suc k) h = absurd (h (omega arith))
-
-    go : Dec (k ≤ length laws) → lawOf k ≡ (λ r. none)
-    go (yes l) = at-zero k (λ p. h p l)
-    go (no l) = List·getD-eq-default ((λ r. none) ∷ laws) (λ r. none) {n = k} (omega arith)
+pub as-none : {table : List ℕ} {top : ℕ} (k : ℕ) → (IsLaw k → ⊥) → Tells false table top (fits (lawOf k))
+as-none k h = record { by = λ before r p. ap (λ law. fits law r) (sym (no-law k h)) }

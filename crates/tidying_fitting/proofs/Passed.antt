@@ -10,19 +10,20 @@ use Rattle.sets.specs.Sets.{has, Formed, Holds, sameBytes}
 use Rattle.sets.specs.Bits.{below-all}
 use Rattle.sets.specs.Laws.{same-true, formed-same, same-words}
 use Rattle.sets.specs.Laws.{same-refl as sets-refl}
-use Rattle.meaning.specs.Node.{Node, Node.empty, Node.bset, Node.assert, Node.group, Node.seq, Node.alt, Node.many}
+use Rattle.meaning.specs.Node.{Node, Node.empty, Node.bset, Node.assert, Node.group, Node.seq, Node.alt, Node.many, Proper}
 use Rattle.meaning.specs.Flat.{Kind.sequence, parts, join}
 use Rattle.tidying_fitting.specs.Parts.{length-parts}
 use Rattle.table.specs.Laws.{inner, kindOf, lastOf}
 use Rattle.tidying_laws.specs.Void.{noBytes, no-bytes}
 use Rattle.tidying_laws.specs.Laws.{isVoid, byteSet, firstSet, restOf}
 use Rattle.tidying_laws.specs.Equal.{same, same-eq, same-refl}
-use Rattle.tidying_fitting.specs.Parts.{Sound, Ends, Row, SomePart, Tells, TellsBoth, FirstEnds, firstItem}
-use Rattle.tidying_fitting.specs.Parts.{inside, last-ends}
+use Rattle.table.specs.Stands.{Ends, Series, SomePart}
+use Rattle.tidying_fitting.specs.Parts.{Tells, TellsBoth, FirstEnds, firstItem}
+use Rattle.table.specs.Roots.{last-ends, inside}
 use Rattle.tidying_fitting.specs.Words.{ownOf, startOf, same-test, when-some}
 use Rattle.tidying_fitting.specs.Marks.{alike, beginsWith}
 use Rattle.tidying_fitting.specs.Fitting.{isSome}
-use Rattle.tidying_fitting.specs.Places.{Test, Walk, Turn, begin, turn, over}
+use Rattle.tidying_fitting.specs.Places.{Test, Walk, Turn, begin, turn}
 use Rattle.tidying_fitting.specs.declared.Record.{Record}
 
 -- A byte set is the same as the set of no byte exactly if it has no byte.
@@ -59,13 +60,13 @@ module _ {table : List ℕ} {top : ℕ} where
       (λ x. false)
       → {b : Bool} → b ≡ sameBytes w z → Tells b table top isVoid
   void-told {o} t k {w} {z} u h {b} e = record {
-    by = λ before r p. go r (p .sound)
+    by = λ before r p. go r (p .proper)
         (sym (ap (λ d. d .kind) (t .by before r p)) ∙ k) (u .by before r p);
   }
     where
-      go : (r : Node) → Sound r → kindOf r ≡ 2 → w ≡ lastOf r → b ≡ isVoid r
+      go : (r : Node) → Proper r → kindOf r ≡ 2 → w ≡ lastOf r → b ≡ isVoid r
       go empty s k l = absurd (omega arith)
-      go (bset s) f k l = e ∙ ap (λ x. sameBytes x z) l ∙ same-void s z (f .proper) h
+      go (bset s) f k l = e ∙ ap (λ x. sameBytes x z) l ∙ same-void s z f h
       go (assert a) s k l = absurd (omega arith)
       go (group n r) s k l = absurd (omega arith)
       go (seq r q) s k l = absurd (omega arith)
@@ -79,7 +80,7 @@ nothing seen r = false
 -- The part that a turn comes to.
 pub turn-part : {test : Test} {l : List Node} {table : List ℕ} {end left : ℕ} {before : List ℕ} {found : ℕ}
     → Turn test l table end left before found → SomePart table end
-turn-part t = record { before = _; part = t .part; ends = last-ends (t .front) (t .part) (t .row) }
+turn-part t = record { before = _; part = t .part; ends = last-ends (t .front) (t .part) (t .series) }
 
 -- A sequence has two items or more, and where one is left it is the first.
 pub record Passing (table : List ℕ) (top end left : ℕ) (before : List ℕ) (r : Node) : Type 0 where
@@ -137,18 +138,18 @@ module _ {table : List ℕ} {top : ℕ} {before : List ℕ} {r : Node} where
       → Passing table top n (left - 1) before r
   pass-more {end} {left} w h {n} s =
       let t = pass-turn w h in
-      rw (s .by _ (t .part) (last-ends (t .front) (t .part) (t .row)))
+      rw (s .by _ (t .part) (last-ends (t .front) (t .part) (t .series)))
       (record { sequence = w .sequence; some = omega arith; walk = t .walk })
 
   pub pass-last : {end left : ℕ} → Passing table top end left before r → left ≤ 1 → Ends table end before (firstItem r)
-  pass-last {end} {left} w h = go (w .walk .rest) (w .walk .split) (w .walk .row)
+  pass-last {end} {left} w h = go (w .walk .rest) (w .walk .split) (w .walk .series)
     where
-      go : (rest : List Node) → inner r ≡ rest ++ w .walk .more → Row table end left before rest → Ends table end before
+      go : (rest : List Node) → inner r ≡ rest ++ w .walk .more → Series table end left before rest → Ends table end before
           (firstItem r)
-      go [] e row = absurd (omega (arith, row .counted, w .some))
-      go (q ∷ []) e row =
-          subst (Ends table end before) (first-of r q (w .walk .more) (w .sequence) e) (rw append-nil at (last-ends [] q row))
-      go (q ∷ p ∷ l) e row = absurd (omega (arith, row .counted))
+      go [] e series = absurd (omega (arith, series .counted, w .some))
+      go (q ∷ []) e series =
+          subst (Ends table end before) (first-of r q (w .walk .more) (w .sequence) e) (rw append-nil at (last-ends [] q series))
+      go (q ∷ p ∷ l) e series = absurd (omega (arith, series .counted))
 
 -- T8: two parts begin alike if their first items are the same byte set.
 abbrev sameSet : Option (List ℕ) → Node → Bool
@@ -226,16 +227,16 @@ module _ {table : List ℕ} {one other a b : ℕ} (fa : FirstEnds a table one) (
       → {v w : List ℕ} → Tells v table a lastOf → Tells w table b lastOf → {x : Bool} → x ≡ sameBytes v w → TellsBoth x table
       one other alike
   sets-told t k t′ k′ {v} {w} s u {x} e = alike-by (λ before before′ p q hp hq.
-      go p q (hp .sound) (hq .sound) (sym (ap (λ d. d .kind) (t .by before p hp)) ∙ k)
+      go p q (hp .proper) (hq .proper) (sym (ap (λ d. d .kind) (t .by before p hp)) ∙ k)
       (sym (ap (λ d. d .kind) (t′ .by before′ q hq)) ∙ k′)
       (s .by before p hp) (u .by before′ q hq))
     where
-      set : (p q : Node) (y z : List ℕ) → p ≡ bset y → q ≡ bset z → Sound p → Sound q → v ≡ y → w ≡ z → x ≡ sameSet (byteSet p) q
+      set : (p q : Node) (y z : List ℕ) → p ≡ bset y → q ≡ bset z → Proper p → Proper q → v ≡ y → w ≡ z → x ≡ sameSet (byteSet p) q
       set p q y z ep eq sp sq lp lq =
-          let fp : Sound (bset y) = rw ep at sp in
-          let fq : Sound (bset z) = rw eq at sq in
-          rw (ep, eq) (e ∙ rw (lp, lq) (same-sets y z (fp .proper) (fq .proper)))
+          let fp : Proper (bset y) = rw ep at sp in
+          let fq : Proper (bset z) = rw eq at sq in
+          rw (ep, eq) (e ∙ rw (lp, lq) (same-sets y z fp fq))
 
-      go : (p q : Node) → Sound p → Sound q → kindOf p ≡ 2 → kindOf q ≡ 2 → v ≡ lastOf p → w ≡ lastOf q → x ≡ sameSet
+      go : (p q : Node) → Proper p → Proper q → kindOf p ≡ 2 → kindOf q ≡ 2 → v ≡ lastOf p → w ≡ lastOf q → x ≡ sameSet
           (byteSet p) q
       go p q sp sq kp kq lp lq = set p q (lastOf p) (lastOf q) (set-kind p kp) (set-kind q kq) sp sq lp lq

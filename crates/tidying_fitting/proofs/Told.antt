@@ -2,37 +2,22 @@
 use mathlib.Core.Path.{_≡_, refl, sym, ap, _∙_}
 use mathlib.Core.Bool.{Bool, true, false, _&&_, false≢true}
 use mathlib.Core.List.{List, [], _∷_, append-nil}
-use Prim.Native.Nat.{ℕ, zero, suc, _+_, _-_, _*_, _≤_, _<_}
+use Prim.Native.Nat.{ℕ, _+_, _-_, _*_, _≤_, _<_}
 use native.Mathlib.Omega.{arith}
-use lib.ListN.{length, getD}
+use lib.ListN.{length, take, drop}
 use lib.Dec.{eqb}
 use borrow.Author.Tests.{eqb-true}
 use Rattle.meaning.specs.Tests.{and-true}
-use Rattle.meaning.specs.Node.{Node, Node.empty, Node.bset, Node.assert, Node.group, Node.seq, Node.alt, Node.many, hi}
-use Rattle.table.specs.Table.{recordWords, recordOf}
-use Rattle.table.specs.Laws.{inner, kindOf, operandOf, lastOf, last-eight}
-use Rattle.table.specs.Roots.{root-word}
-use Rattle.tidying_fitting.specs.Parts.{Sound, Ends, Row, SomePart, Tells, Room, room, inside, last-ends}
+use Rattle.meaning.specs.Node.{Node, Node.empty, Node.bset, Node.assert, Node.group, Node.seq, Node.alt, Node.many, hi, Proper}
+use Rattle.table.specs.Table.{kindWord, recordsWord, itemsWord, highestWord, setWord, leastWord, mostWord, lazyWord}
+use Rattle.table.specs.Table.{recordWords, wordOf}
+use Rattle.meaning.specs.Limits.{setWords}
+use Rattle.table.specs.Laws.{inner, kindOf, lastOf}
+use Rattle.table.specs.Roots.{root-set, root-word, last-ends, inside}
+use Rattle.table.specs.Stands.{Ends, SomePart}
+use Rattle.tidying_fitting.specs.Parts.{Tells, room}
 use Rattle.tidying_fitting.specs.Words.{ownOf, startOf, onPart, ranged, nestedIn, isNested}
 use Rattle.tidying_fitting.specs.declared.Record.{Record}
-
--- The word at a place of a part's own record.
-abbrev wordAt : List ℕ → ℕ → ℕ → ℕ
-wordAt table top j = getD table (recordWords * (top - 1) + j) 0
-
--- Eight words are their list.
-eight : (s : List ℕ) → length s ≡ 8
-    → getD s 0 0 ∷ getD s 1 0 ∷ getD s 2 0 ∷ getD s 3 0 ∷ getD s 4 0 ∷ getD s 5 0 ∷ getD s 6 0 ∷ getD s 7 0 ∷ [] ≡ s
-eight [] h = absurd (omega arith)
-eight (a ∷ []) h = absurd (omega arith)
-eight (a ∷ b ∷ []) h = absurd (omega arith)
-eight (a ∷ b ∷ c ∷ []) h = absurd (omega arith)
-eight (a ∷ b ∷ c ∷ d ∷ []) h = absurd (omega arith)
-eight (a ∷ b ∷ c ∷ d ∷ e ∷ []) h = absurd (omega arith)
-eight (a ∷ b ∷ c ∷ d ∷ e ∷ f ∷ []) h = absurd (omega arith)
-eight (a ∷ b ∷ c ∷ d ∷ e ∷ f ∷ g ∷ []) h = absurd (omega arith)
-eight (a ∷ b ∷ c ∷ d ∷ e ∷ f ∷ g ∷ i ∷ []) h = refl
-eight (a ∷ b ∷ c ∷ d ∷ e ∷ f ∷ g ∷ i ∷ j ∷ l) h = absurd (omega arith)
 
 module _ {table : List ℕ} {top : ℕ} where
   -- There is a record to read, in the table.
@@ -40,47 +25,31 @@ module _ {table : List ℕ} {top : ℕ} where
   asked s = omega (arith, room (s .ends) .some, room (s .ends) .few, room (s .ends) .held)
 
   -- What the words that were read say, whatever the part is.
-  pub own-told : {k n i h l m z : ℕ} → k ≡ wordAt table top 0 → n ≡ wordAt table top 2 → i ≡ wordAt table top 3 → h ≡ wordAt
-      table top 6
-      → l ≡ wordAt table top 8 → m ≡ wordAt table top 9 → z ≡ wordAt table top 10
+  pub own-told : {k n i h l m z : ℕ} → k ≡ wordOf table top kindWord → n ≡ wordOf table top recordsWord → i ≡ wordOf table top itemsWord → h ≡ wordOf table top highestWord
+      → l ≡ wordOf table top leastWord → m ≡ wordOf table top mostWord → z ≡ wordOf table top lazyWord
       → Tells (record { kind = k; records = n; items = i; highest = h; least = l; most = m; lazy = z }) table top ownOf
   own-told {k} {n} {i} {h} {l} {m} {z} e₀ e₂ e₃ e₆ e₈ e₉ e₁₀ = record {
     by = λ before r p.
-        let read = root-word before r (p .sound .proper) (p .stands) in
-        let f₀ = e₀ ∙ read 0 (omega arith) in
-        let f₂ = e₂ ∙ read 2 (omega arith) in
-        let f₃ = e₃ ∙ read 3 (omega arith) in
-        let f₆ = e₆ ∙ read 6 (omega arith) in
-        let f₈ = e₈ ∙ read 8 (omega arith) in
-        let f₉ = e₉ ∙ read 9 (omega arith) in
-        let f₁₀ = e₁₀ ∙ read 10 (omega arith) in
+        let read = root-word p in
+        let f₀ = e₀ ∙ read kindWord (omega arith) in
+        let f₂ = e₂ ∙ read recordsWord (omega arith) in
+        let f₃ = e₃ ∙ read itemsWord (omega arith) in
+        let f₆ = e₆ ∙ read highestWord (omega arith) in
+        let f₈ = e₈ ∙ read leastWord (omega arith) in
+        let f₉ = e₉ ∙ read mostWord (omega arith) in
+        let f₁₀ = e₁₀ ∙ read lazyWord (omega arith) in
         cc;
   }
 
-  pub last-told : {a b c d e f g i : ℕ} → a ≡ wordAt table top 8 → b ≡ wordAt table top 9 → c ≡ wordAt table top 10 → d ≡
-      wordAt table top 11
-      → e ≡ wordAt table top 12 → f ≡ wordAt table top 13 → g ≡ wordAt table top 14 → i ≡ wordAt table top 15
-      → Tells (a ∷ b ∷ c ∷ d ∷ e ∷ f ∷ g ∷ i ∷ []) table top lastOf
-  last-told {a} {b} {c} {d} {e} {f} {g} {i} ha hb hc hd he hf hg hi = record {
-    by = λ before r p.
-        let read = root-word before r (p .sound .proper) (p .stands) in
-        rw (
-          ha ∙ read 8 (omega arith),
-          hb ∙ read 9 (omega arith),
-          hc ∙ read 10 (omega arith),
-          hd ∙ read 11 (omega arith),
-          he ∙ read 12 (omega arith),
-          hf ∙ read 13 (omega arith),
-          hg ∙ read 14 (omega arith),
-          hi ∙ read 15 (omega arith),
-        ) (eight (lastOf r) (last-eight r (p .sound .proper)));
-  }
+  pub last-told : {last : List ℕ} → last ≡ take setWords (drop (recordWords * (top - 1) + setWord) table)
+      → Tells last table top lastOf
+  last-told e = record { by = λ before r p. e ∙ root-set p }
 
   -- A test of the record is one of the part.
-  pub by-record : (f : Record → Bool) (g : Node → Bool) → ((r : Node) → Sound r → f (ownOf r) ≡ g r) → {o : Record} → Tells o
+  pub by-record : (f : Record → Bool) (g : Node → Bool) → ((r : Node) → Proper r → f (ownOf r) ≡ g r) → {o : Record} → Tells o
       table top ownOf
       → {b : Bool} → b ≡ f o → Tells b table top g
-  by-record f g h t e = record { by = λ before r p. e ∙ ap f (t .by before r p) ∙ h r (p .sound) }
+  by-record f g h t e = record { by = λ before r p. e ∙ ap f (t .by before r p) ∙ h r (p .proper) }
 
   -- The part starts as many records below as it has.
   pub start-told : {o : Record} {n : ℕ} → Tells o table top ownOf → n ≡ top - o .records → Tells n table top (startOf top)
@@ -186,12 +155,12 @@ module _ {table : List ℕ} {top : ℕ} where
   }
 
   -- A law that asks one test and then another.
-  module _ (law first second : Node → Bool) (h : (r : Node) → Sound r → law r ≡ (first r && second r)) {b : Bool}
+  module _ (law first second : Node → Bool) (h : (r : Node) → Proper r → law r ≡ (first r && second r)) {b : Bool}
       (t : Tells b table top first) where
     pub first-fails : b ≡ false → Tells false table top law
-    first-fails e = record { by = λ before r p. sym (h r (p .sound) ∙ ap (λ d. d && second r) (sym (t .by before r p) ∙ e)) }
+    first-fails e = record { by = λ before r p. sym (h r (p .proper) ∙ ap (λ d. d && second r) (sym (t .by before r p) ∙ e)) }
 
     pub first-passes : b ≡ true → {d : Bool} → Tells d table top second → Tells d table top law
     first-passes e u = record {
-      by = λ before r p. u .by before r p ∙ sym (h r (p .sound) ∙ ap (λ d. d && second r) (sym (t .by before r p) ∙ e));
+      by = λ before r p. u .by before r p ∙ sym (h r (p .proper) ∙ ap (λ d. d && second r) (sym (t .by before r p) ∙ e));
     }

@@ -1,25 +1,23 @@
--- T1, T6, T7 and T8 look for a part of a row: what each looks for, and that the law fits exactly if there is one.
+-- T1, T6, T7 and T8 look for a part of a series: what each looks for, and that the law fits exactly if there is one.
 use mathlib.Core.Path.{_≡_, refl, sym, ap, _∙_}
 use mathlib.Core.Bool.{Bool, true, false, cond, _&&_, _||_, or-false, false≢true}
 use mathlib.Core.Option.{Option, none, some, Option·map, Option·none-ne-some, Option·some-injective}
 use mathlib.Core.List.{List, [], _∷_, _++_}
-use Prim.Native.Nat.{ℕ, zero, suc, _+_, _-_}
-use native.Mathlib.Omega.{arith}
+use Prim.Native.Nat.{ℕ, _+_, _-_}
 use lib.Dec.{eqb}
-use Rattle.meaning.specs.Node.{Node, Node.empty, Node.bset, Node.assert, Node.group, Node.seq, Node.alt, Node.many, hi}
+use Rattle.meaning.specs.Node.{Node, Node.empty, Node.bset, Node.assert, Node.group, Node.seq, Node.alt, Node.many, hi, Proper}
 use Rattle.meaning.specs.Flat.{Kind, Kind.sequence, Kind.alternation, parts, join, by-parts}
 use Rattle.meaning.specs.Results.{orElse, orElse-none}
 use Rattle.table.specs.Table.{recordCount}
 use Rattle.table.specs.Laws.{inner, kindOf}
 use Rattle.tidying_laws.specs.Choices.{any}
-use Rattle.tidying_laws.specs.Groups.{groupFree}
+use Rattle.tidying_laws.specs.Groups.{groupFree, proper-positive}
 use Rattle.tidying_laws.specs.Equal.{same, same-refl}
 use Rattle.tidying_laws.specs.Void.{void}
-use Rattle.tidying_laws.specs.Laws.{when, two, onParts, isEmpty, filled, byteSet, isVoid}
+use Rattle.tidying_laws.specs.Laws.{when, two, isEmpty, filled, byteSet, isVoid}
 use Rattle.tidying_laws.specs.Laws.{firstSet, restOf, Run, extend, run, shared, sharedAt}
-use Rattle.tidying_laws.specs.Laws.{distinct, possible, share, laws, t1, t6, t7, t8}
-use Rattle.tidying_fitting.specs.Fitting.{isSome, lawOf, fits}
-use Rattle.tidying_fitting.specs.Parts.{Sound}
+use Rattle.tidying_laws.specs.Laws.{distinct, possible, share, t1, t6, t7, t8}
+use Rattle.tidying_fitting.specs.Fitting.{isSome, fits}
 use Rattle.tidying_fitting.specs.Words.{free-highest, when-some}
 use Rattle.tidying_fitting.specs.Places.{Split, behind, Test, leftmost, endOf}
 use Rattle.tidying_fitting.specs.declared.Mark.{Mark}
@@ -161,12 +159,12 @@ share-leftmost seen r (q ∷ l) =
     ∙ rw (shared-two (firstSet (parts sequence r)) r q l refl, share-leftmost (r ∷ seen) q l)
     (sym (leftmost-more follows (r ∷ seen) q l))
 
--- A row of a kind has two parts or more, so that a law for its parts looks at all of them.
+-- A series of a kind has two parts or more, so that a law for its parts looks at all of them.
 two-parts : {A : Type 0} (k : Kind) (f : List Node → Option A) (r q : Node) → two f (r ∷ parts k q) ≡ f (r ∷ parts k q)
 two-parts k f r q = by-parts k (λ q l. two f (r ∷ l) ≡ f (r ∷ l)) (λ q n. refl) (λ p q l e. refl) q
 
-pub t1-marked : (r : Node) → fits 1 r ≡ hasMarked 5 Empty r
-unfolding fits lawOf laws t1 parts inner
+pub t1-marked : (r : Node) → fits t1 r ≡ hasMarked 5 Empty r
+unfolding parts inner
 t1-marked empty = refl
 t1-marked (bset s) = refl
 t1-marked (assert a) = refl
@@ -177,8 +175,8 @@ t1-marked (seq r q) = let l : List Node = r ∷ parts sequence q in
 t1-marked (alt r q) = refl
 t1-marked (many n e lazy r) = refl
 
-pub t6-marked : (r : Node) → fits 6 r ≡ hasMarked 6 Equal r
-unfolding fits lawOf laws t6 parts inner
+pub t6-marked : (r : Node) → fits t6 r ≡ hasMarked 6 Equal r
+unfolding parts inner
 t6-marked empty = refl
 t6-marked (bset s) = refl
 t6-marked (assert a) = refl
@@ -189,8 +187,8 @@ t6-marked (alt r q) = let l : List Node = r ∷ parts alternation q in
     ∙ map-some (join alternation) (distinct [] l) ∙ ap isSome (distinct-leftmost [] l) ∙ map-some without (leftmost goes [] l)
 t6-marked (many n e lazy r) = refl
 
-pub t8-marked : (r : Node) → fits 8 r ≡ hasMarked 6 Alike r
-unfolding fits lawOf laws t8 parts inner
+pub t8-marked : (r : Node) → fits t8 r ≡ hasMarked 6 Alike r
+unfolding parts inner
 t8-marked empty = refl
 t8-marked (bset s) = refl
 t8-marked (assert a) = refl
@@ -207,8 +205,8 @@ and-comm true false = refl
 and-comm false true = refl
 and-comm false false = refl
 
-pub t7-marked : (r : Node) → Sound r → fits 7 r ≡ (hasMarked 6 Void r || (hasMarked 5 Void r && eqb (hi r) 0))
-unfolding fits lawOf laws t7 parts inner
+pub t7-marked : (r : Node) → Proper r → fits t7 r ≡ (hasMarked 6 Void r || (hasMarked 5 Void r && eqb (hi r) 0))
+unfolding parts inner
 t7-marked empty h = refl
 t7-marked (bset s) h = refl
 t7-marked (assert a) h = refl
@@ -216,7 +214,7 @@ t7-marked (group k r) h = refl
 t7-marked (seq r q) h = let l : List Node = r ∷ parts sequence q in
     ap isSome (two-parts sequence (λ l. when (groupFree (seq r q) && any isVoid l) (bset void)) r q)
     ∙ when-some (groupFree (seq r q) && any isVoid l) (bset void) ∙ and-comm (groupFree (seq r q)) (any isVoid l)
-    ∙ rw (free-highest (seq r q) (h .positive), any-leftmost isVoid [] l)
+    ∙ rw (free-highest (seq r q) (proper-positive (seq r q) h), any-leftmost isVoid [] l)
 t7-marked (alt r q) h = let l : List Node = r ∷ parts alternation q in
     ap (λ o. isSome (orElse o none)) (two-parts alternation (λ l. Option·map (join alternation) (possible l)) r q)
     ∙ ap isSome (orElse-none (Option·map (join alternation) (possible l))) ∙ map-some (join alternation) (possible l)

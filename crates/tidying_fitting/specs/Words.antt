@@ -1,26 +1,24 @@
 -- T2 to T5 and T9 by the words of a quantifier's own record, and of its part's.
-use mathlib.Core.Path.{_≡_, refl, sym, ap, _∙_}
-use mathlib.Core.Bool.{Bool, true, false, cond, not, _&&_, _||_, Bool·beq, false≢true}
+use mathlib.Core.Path.{_≡_, refl, sym, _∙_}
+use mathlib.Core.Bool.{Bool, true, false, cond, _&&_, Bool·beq, false≢true}
 use mathlib.Core.Option.{Option, none, some}
-use mathlib.Core.List.{List, [], _∷_}
-use Prim.Native.Nat.{ℕ, zero, suc, _+_, _-_, _≤_, _<_, max}
+use mathlib.Core.List.{[]}
+use Prim.Native.Nat.{ℕ, zero, suc, _+_, _-_}
 use native.Mathlib.Omega.{arith}
-use native.Mathlib.Decide.{ℕ-discrete}
 use lib.ListN.{length, getD}
 use lib.Dec.{eqb, leb}
-use borrow.Author.Tests.{eq-eqb, ne-eqb, eqb-true, eqb-false, le-leb, lt-leb}
-use Rattle.meaning.specs.Node.{Node, Node.empty, Node.bset, Node.assert, Node.group, Node.seq, Node.alt, Node.many, hi}
+use borrow.Author.Tests.{eq-eqb, ne-eqb, eqb-true, lt-leb}
+use Rattle.meaning.specs.Node.{Node, Node.empty, Node.bset, Node.assert, Node.group, Node.seq, Node.alt, Node.many, hi, Proper}
+use Rattle.meaning.specs.Node.{Within}
 use Rattle.meaning.specs.Results.{orElse}
 use Rattle.meaning.specs.Limits.{noMaximum}
 use Rattle.table.specs.Table.{recordCount, maximum, bitOf}
 use Rattle.table.specs.Laws.{inner, kindOf, lastOf}
-use Rattle.table.specs.Derived.{Limited}
-use Rattle.tidying_laws.specs.Groups.{groups, Positive, positive-both, groupFree, free-groups, same-high}
+use Rattle.tidying_laws.specs.Groups.{groups, Positive, proper-positive, positive-both, groupFree, free-groups, same-high}
 use Rattle.tidying_laws.specs.Equal.{same, same-eq, same-refl}
 use Rattle.tidying_laws.specs.Quantified.{absorbed}
-use Rattle.tidying_laws.specs.Laws.{when, sameMore, counts, isEmpty, onAssert, onMany, laws, t1, t2, t3, t4, t5, t6, t7, t8, t9}
-use Rattle.tidying_fitting.specs.Fitting.{isSome, lawOf, fits}
-use Rattle.tidying_fitting.specs.Parts.{Sound}
+use Rattle.tidying_laws.specs.Laws.{when, counts, isEmpty, onAssert, onMany, t2, t3, t4, t5, t9}
+use Rattle.tidying_fitting.specs.Fitting.{isSome, fits}
 use Rattle.tidying_fitting.specs.declared.Record.{Record}
 
 -- What a part's own record says.
@@ -110,7 +108,7 @@ isNested most = onPart (λ r q. nestedIn most (ownOf r) (ownOf q))
 abbrev pub onceOrNever : Record → Bool
 onceOrNever part = eqb (part .kind) 7 && (eqb (part .least) (part .most) && (leb (part .least) 1 && eqb (part .highest) 0))
 
-once : (n : ℕ) (e : Option ℕ) (b : Bool) (q : Node) → Limited (many n e false q)
+once : (n : ℕ) (e : Option ℕ) (b : Bool) (q : Node) → Within n e
     → isSome (orElse (when (counts n e 1 (some 0) && b) q) (when (counts n e 0 (some 0) && b) empty))
     ≡ (eqb n (maximum n e) && (leb n 1 && b))
 once n none b q h =
@@ -130,15 +128,15 @@ once (suc (suc n)) (some zero) b q h =
     let zero : counts (suc (suc n)) (some 0) 0 (some 0) ≡ false = rw (ne-eqb (suc (suc n)) 0 (λ e. omega arith)) in
     rw (one, zero, lt-leb (suc (suc n)) 1 (omega arith)) (sym (and-false (eqb (suc (suc n)) (suc (suc n) + 0))))
 
-pub t2-words : (r : Node) → Sound r → onceOrNever (ownOf r) ≡ fits 2 r
-unfolding fits lawOf laws t2 hi groups
+pub t2-words : (r : Node) → Proper r → onceOrNever (ownOf r) ≡ fits t2 r
+unfolding hi groups
 t2-words empty h = refl
 t2-words (bset s) h = refl
 t2-words (assert a) h = refl
 t2-words (group k r) h = refl
 t2-words (seq r q) h = refl
 t2-words (alt r q) h = refl
-t2-words (many n e lazy r) h = rw (← free-highest r (h .positive)) (sym (once n e (groupFree r) r (h .limited .0)))
+t2-words (many n e lazy r) h = rw (← free-highest r (proper-positive r (h .1))) (sym (once n e (groupFree r) r (h .0)))
 
 -- T3: only an empty part has kind 1.
 pub empty-kind : (r : Node) → isEmpty r ≡ eqb (kindOf r) 1
@@ -153,8 +151,7 @@ empty-kind r = same-test (isEmpty r) (eqb (kindOf r) 1) (λ t. rw (same-eq r emp
     back (alt r q) t = absurd (false≢true t)
     back (many n e lazy r) t = absurd (false≢true t)
 
-pub t3-over : (r : Node) → fits 3 r ≡ isOver 1 r
-unfolding fits lawOf laws t3
+pub t3-over : (r : Node) → fits t3 r ≡ isOver 1 r
 t3-over empty = refl
 t3-over (bset s) = refl
 t3-over (assert a) = refl
@@ -164,8 +161,7 @@ t3-over (alt r q) = refl
 t3-over (many n e lazy r) = when-some (isEmpty r) empty ∙ empty-kind r
 
 -- T4: only an assertion has kind 3.
-pub t4-over : (r : Node) → fits 4 r ≡ isOver 3 r
-unfolding fits lawOf laws t4
+pub t4-over : (r : Node) → fits t4 r ≡ isOver 3 r
 t4-over empty = refl
 t4-over (bset s) = refl
 t4-over (assert a) = refl
@@ -184,12 +180,12 @@ t4-over (many n e lazy r) = by r
     by (many n e lazy r) = refl
 
 -- The counts of a quantifier, as words.
-none-more : (n : ℕ) (e : Option ℕ) (lazy : Bool) (q : Node) → Limited (many n e lazy q)
+none-more : (n : ℕ) (e : Option ℕ) (lazy : Bool) (q : Node) → Within n e
     → counts n e 0 none ≡ ranged (ownOf (many n e lazy q)) noMaximum
 none-more n none lazy q h = refl
 none-more n (some e) lazy q h = rw (ne-eqb (n + e) noMaximum (λ e. omega arith))
 
-one-more : (n : ℕ) (e : Option ℕ) (lazy : Bool) (q : Node) → Limited (many n e lazy q)
+one-more : (n : ℕ) (e : Option ℕ) (lazy : Bool) (q : Node) → Within n e
     → counts n e 0 (some 1) ≡ ranged (ownOf (many n e lazy q)) 1
 one-more n none lazy q h = refl
 one-more zero (some e) lazy q h = let same : 0 + e ≡ e = omega arith in rw same
@@ -225,10 +221,10 @@ unnested : (most : ℕ) (o : Record) (q : Node) (b : Bool) → (kindOf q ≡ 7 �
 unnested most o q b h = rw (ne-eqb (kindOf q) 7 h, and-false (ranged o most))
 
 module _ (more : Option ℕ) (most : ℕ) (lazyTest : Bool → Bool → Bool) (wordTest : ℕ → ℕ → Bool)
-    (counted : (n : ℕ) (e : Option ℕ) (lazy : Bool) (q : Node) → Limited (many n e lazy q) → counts n e 0 more ≡ ranged
+    (counted : (n : ℕ) (e : Option ℕ) (lazy : Bool) (q : Node) → Within n e → counts n e 0 more ≡ ranged
     (ownOf (many n e lazy q)) most)
     (asWords : (inner outer : Bool) → lazyTest inner outer ≡ wordTest (bitOf outer) (bitOf inner)) where
-  nested-words : (n : ℕ) (e : Option ℕ) (lazy : Bool) (q : Node) → Sound (many n e lazy q)
+  nested-words : (n : ℕ) (e : Option ℕ) (lazy : Bool) (q : Node) → Proper (many n e lazy q)
       → isSome (onMany (λ m f inner r. when (counts n e 0 more && counts m f 0 more && lazyTest inner lazy && groupFree r)
       (many 0 more lazy r)) q)
       ≡ (isNested most (many n e lazy q) && lazyWords wordTest (many n e lazy q))
@@ -236,10 +232,10 @@ module _ (more : Option ℕ) (most : ℕ) (lazyTest : Bool → Bool → Bool) (w
   nested-words n e lazy (many m f inner q) h =
       when-some (counts n e 0 more && counts m f 0 more && lazyTest inner lazy && groupFree q) (many 0 more lazy q)
       ∙ rw (
-        counted n e lazy (many m f inner q) (h .limited .0),
-        counted m f inner q (h .limited .1 .0),
+        counted n e lazy (many m f inner q) (h .0),
+        counted m f inner q (h .1 .0),
         asWords inner lazy,
-        free-highest q (h .positive),
+        free-highest q (proper-positive q (h .1 .1)),
       ) (shuffle (ranged (ownOf (many n e lazy (many m f inner q))) most) (ranged (ownOf (many m f inner q)) most)
       (wordTest (bitOf lazy) (bitOf inner)) (eqb (hi q) 0))
   nested-words n e lazy empty h = unnested most (ownOf (many n e lazy empty)) empty _ (λ e. omega arith)
@@ -249,23 +245,19 @@ module _ (more : Option ℕ) (most : ℕ) (lazyTest : Bool → Bool → Bool) (w
   nested-words n e lazy (seq r q) h = unnested most (ownOf (many n e lazy (seq r q))) (seq r q) _ (λ e. omega arith)
   nested-words n e lazy (alt r q) h = unnested most (ownOf (many n e lazy (alt r q))) (alt r q) _ (λ e. omega arith)
 
-pub t5-words : (r : Node) → Sound r → fits 5 r ≡ (isNested noMaximum r && lazyWords leb r)
-unfolding fits lawOf laws t5
-t5-words empty h = refl
-t5-words (bset s) h = refl
-t5-words (assert a) h = refl
-t5-words (group k r) h = refl
-t5-words (seq r q) h = refl
-t5-words (alt r q) h = refl
-t5-words (many n e lazy q) h = nested-words none noMaximum absorbed leb none-more absorbed-word n e lazy q h
+  nested-fits : (r : Node) → Proper r → isSome (onMany (λ n e lazy. onMany (λ m f inner r.
+      when (counts n e 0 more && counts m f 0 more && lazyTest inner lazy && groupFree r) (many 0 more lazy r))) r)
+      ≡ (isNested most r && lazyWords wordTest r)
+  nested-fits empty h = refl
+  nested-fits (bset s) h = refl
+  nested-fits (assert a) h = refl
+  nested-fits (group k r) h = refl
+  nested-fits (seq r q) h = refl
+  nested-fits (alt r q) h = refl
+  nested-fits (many n e lazy q) h = nested-words n e lazy q h
 
-pub t9-words : (r : Node) → Sound r → fits 9 r ≡ (isNested 1 r && lazyWords eqb r)
-unfolding fits lawOf laws t9
-t9-words empty h = refl
-t9-words (bset s) h = refl
-t9-words (assert a) h = refl
-t9-words (group k r) h = refl
-t9-words (seq r q) h = refl
-t9-words (alt r q) h = refl
-t9-words (many n e lazy q) h = nested-words (some 1) 1 (λ inner outer. Bool·beq outer inner) eqb one-more
-    (λ inner outer. same-word outer inner) n e lazy q h
+pub t5-words : (r : Node) → Proper r → fits t5 r ≡ (isNested noMaximum r && lazyWords leb r)
+t5-words = nested-fits none noMaximum absorbed leb none-more absorbed-word
+
+pub t9-words : (r : Node) → Proper r → fits t9 r ≡ (isNested 1 r && lazyWords eqb r)
+t9-words = nested-fits (some 1) 1 (λ inner outer. Bool·beq outer inner) eqb one-more (λ inner outer. same-word outer inner)

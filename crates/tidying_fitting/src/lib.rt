@@ -8,17 +8,25 @@ use table::LEAST;
 use table::MOST;
 use table::RECORDS;
 use table::word;
+use tidying_laws::T1;
+use tidying_laws::T2;
+use tidying_laws::T3;
+use tidying_laws::T4;
+use tidying_laws::T5;
+use tidying_laws::T6;
+use tidying_laws::T7;
+use tidying_laws::T8;
+use tidying_laws::T9;
 
 mod quantifiers; // quantifiers.rt: T2 to T5 and T9, laws for a quantifier
 pub mod series; // series.rt: T1 and T6 to T8, laws for the items of a sequence and the alternatives of an alternation
 
 ghost use Rattle.table.specs.Laws.{lastOf};
+ghost use Rattle.tidying_laws.specs.ByNumber.{lawOf};
 ghost use Rattle.tidying_fitting.specs.Fitting.{fits};
-ghost use Rattle.tidying_fitting.specs.Parts.{SomePart, Tells};
+ghost use Rattle.table.specs.Stands.{SomePart};
+ghost use Rattle.tidying_fitting.specs.Parts.{Tells};
 ghost use Rattle.tidying_fitting.specs.Words.{ownOf, startOf};
-
-// How many laws there are.
-pub const LAWS: u32 = 9;
 
 // What a part's own record says: its kind, how many records and items it has, its highest group, and a quantifier's
 // counts and laziness.
@@ -32,7 +40,7 @@ pub struct Record {
     pub lazy: u32,
 }
 
-// What a law looks for among the parts of a row: T1 an empty item, T6 an alternative without groups that equals an earlier one,
+// What a law looks for among the parts of a series: T1 an empty item, T6 an alternative without groups that equals an earlier one,
 // T7 a set with no byte, T8 an alternative whose first item is the byte set that its left neighbour begins with.
 pub enum Mark {
     Empty,
@@ -57,7 +65,7 @@ pub fn own(table: &[u32], top: usize) -> Record
     }
 }
 
-// The record number at which the part that ends at `top` starts: there the part before it in a row ends.
+// The record number at which the part that ends at `top` starts: there the part before it in a series ends.
 pub fn start(table: &[u32], top: usize) -> usize
     requires { ⌜ SomePart (now table) top ⌝ }
     ensures { λ r. ⌜ Tells r (now (table .entry)) top (startOf top) ⌝ }
@@ -71,33 +79,24 @@ pub fn last_words(table: &[u32], top: usize) -> [u32; 8]
     requires { ⌜ SomePart (now table) top ⌝ }
     ensures { λ r. ⌜ Tells r (now (table .entry)) top lastOf ⌝ }
 {
-    [
-        word(table, top, 8),
-        word(table, top, 9),
-        word(table, top, 10),
-        word(table, top, 11),
-        word(table, top, 12),
-        word(table, top, 13),
-        word(table, top, 14),
-        word(table, top, 15),
-    ]
+    table::last_words(table, top)
 }
 
-// Whether a law fits the part that ends at `top`. No law has another number.
+// Whether the law of a number fits the part that ends at `top`. A number that no law has fits nothing.
 pub fn fits(table: &[u32], top: usize, law: u32) -> bool
     requires { ⌜ SomePart (now table) top ⌝ }
-    ensures { λ r. ⌜ Tells r (now (table .entry)) top (fits law) ⌝ }
+    ensures { λ r. ⌜ Tells r (now (table .entry)) top (fits (lawOf law)) ⌝ }
 {
     match law {
-        1 => series::empty_item(table, top),
-        2 => quantifiers::once_or_never(table, top),
-        3 => quantifiers::quantified_empty(table, top),
-        4 => quantifiers::quantified_assertion(table, top),
-        5 => quantifiers::loop_of_loop(table, top),
-        6 => series::equal_alternative(table, top),
-        7 => series::void_part(table, top),
-        8 => series::shared_first(table, top),
-        9 => quantifiers::option_of_option(table, top),
+        T1 => series::empty_item(table, top),
+        T2 => quantifiers::once_or_never(table, top),
+        T3 => quantifiers::quantified_empty(table, top),
+        T4 => quantifiers::quantified_assertion(table, top),
+        T5 => quantifiers::loop_of_loop(table, top),
+        T6 => series::equal_alternative(table, top),
+        T7 => series::void_part(table, top),
+        T8 => series::shared_first(table, top),
+        T9 => quantifiers::option_of_option(table, top),
         _ => false,
     }
 }

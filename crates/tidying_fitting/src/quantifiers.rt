@@ -6,14 +6,16 @@ use table::ASSERTION;
 use table::EMPTY;
 use table::QUANTIFIER;
 ghost use mathlib.Core.Path.{_≡_};
+ghost use Rattle.tidying_laws.specs.Laws.{t2, t3, t4, t5, t9};
 ghost use Rattle.tidying_fitting.specs.Fitting.{fits};
-ghost use Rattle.tidying_fitting.specs.Parts.{SomePart, Tells};
+ghost use Rattle.table.specs.Stands.{SomePart};
+ghost use Rattle.tidying_fitting.specs.Parts.{Tells};
 ghost use Rattle.tidying_fitting.specs.Words.{isOver, ranged, isNested};
 
 // T2: r{1} and r{0}, with no group.
 pub fn once_or_never(table: &[u32], top: usize) -> bool
     requires { ⌜ SomePart (now table) top ⌝ }
-    ensures { λ r. ⌜ Tells r (now (table .entry)) top (fits 2) ⌝ }
+    ensures { λ r. ⌜ Tells r (now (table .entry)) top (fits t2) ⌝ }
 {
     let part = own(table, top);
     if part.kind != QUANTIFIER {
@@ -44,7 +46,7 @@ fn over(table: &[u32], top: usize, kind: u32) -> bool
 // T3: a quantified empty.
 pub fn quantified_empty(table: &[u32], top: usize) -> bool
     requires { ⌜ SomePart (now table) top ⌝ }
-    ensures { λ r. ⌜ Tells r (now (table .entry)) top (fits 3) ⌝ }
+    ensures { λ r. ⌜ Tells r (now (table .entry)) top (fits t3) ⌝ }
 {
     over(table, top, EMPTY)
 }
@@ -52,7 +54,7 @@ pub fn quantified_empty(table: &[u32], top: usize) -> bool
 // T4: a quantified assertion.
 pub fn quantified_assertion(table: &[u32], top: usize) -> bool
     requires { ⌜ SomePart (now table) top ⌝ }
-    ensures { λ r. ⌜ Tells r (now (table .entry)) top (fits 4) ⌝ }
+    ensures { λ r. ⌜ Tells r (now (table .entry)) top (fits t4) ⌝ }
 {
     over(table, top, ASSERTION)
 }
@@ -89,7 +91,7 @@ fn nested(table: &[u32], top: usize, most: u32) -> bool
 // T5: (?:r*)*, (?:r*?)* and (?:r*?)*?. A lazy loop is one only over a lazy loop.
 pub fn loop_of_loop(table: &[u32], top: usize) -> bool
     requires { ⌜ SomePart (now table) top ⌝ }
-    ensures { λ r. ⌜ Tells r (now (table .entry)) top (fits 5) ⌝ }
+    ensures { λ r. ⌜ Tells r (now (table .entry)) top (fits t5) ⌝ }
 {
     if !nested(table, top, NO_MAXIMUM) {
         return false;
@@ -102,7 +104,7 @@ pub fn loop_of_loop(table: &[u32], top: usize) -> bool
 // T9: (?:r?)? and (?:r??)??.
 pub fn option_of_option(table: &[u32], top: usize) -> bool
     requires { ⌜ SomePart (now table) top ⌝ }
-    ensures { λ r. ⌜ Tells r (now (table .entry)) top (fits 9) ⌝ }
+    ensures { λ r. ⌜ Tells r (now (table .entry)) top (fits t9) ⌝ }
 {
     if !nested(table, top, 1) {
         return false;

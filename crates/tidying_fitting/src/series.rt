@@ -1,5 +1,5 @@
 // The laws for the items of a sequence and the alternatives of an alternation: T1 and T6 to T8. Each looks for a part in a
-// row, and the parts of a row are passed from the last one back: its own record says where the one before it ends.
+// series, and the parts of a series are passed from the last one back: its own record says where the one before it ends.
 use super::Mark;
 use super::last_words;
 use super::own;
@@ -13,10 +13,11 @@ ghost use mathlib.Core.List.{[]};
 ghost use Prim.Native.Nat.{_+_, _≤_};
 ghost use lib.ListN.{length};
 ghost use Rattle.tidying_laws.specs.Equal.{same};
-ghost use Rattle.tidying_laws.specs.Laws.{isVoid};
+ghost use Rattle.tidying_laws.specs.Laws.{isVoid, t1, t6, t7, t8};
 ghost use Rattle.tidying_laws.specs.Alternatives.{past};
 ghost use Rattle.tidying_fitting.specs.Fitting.{fits};
-ghost use Rattle.tidying_fitting.specs.Parts.{SomePart, SomeRow, Tells, TellsLast, TellsBoth, FirstEnds, Compares};
+ghost use Rattle.table.specs.Stands.{SomePart};
+ghost use Rattle.tidying_fitting.specs.Parts.{SomeLast, Tells, TellsLast, TellsBoth, FirstEnds, Compares};
 ghost use Rattle.tidying_fitting.specs.Marks.{marks, alike, goes, follows, repeats, markedEnd, hasMarked};
 
 // Whether a part is a byte set with no byte.
@@ -67,9 +68,9 @@ pub fn begins_alike(table: &[u32], one: usize, other: usize) -> bool
     sets::same(last_words(table, a), last_words(table, b))
 }
 
-// T8: whether the last part of a row begins as its left neighbour does.
+// T8: whether the last part of a series begins as its left neighbour does.
 fn follows(table: &[u32], top: usize, items: u32) -> bool
-    requires { ⌜ SomeRow (now table) top items ⌝ }
+    requires { ⌜ SomeLast (now table) top items ⌝ }
     ensures { λ r. ⌜ TellsLast r (now (table .entry)) top items (λ front q. follows (past front []) q) ⌝ }
 {
     if items <= 1 {
@@ -112,9 +113,9 @@ fn same_part(table: &[u32], one: usize, other: usize) -> bool
     )
 }
 
-// Whether the last part of a row equals an earlier one.
+// Whether the last part of a series equals an earlier one.
 fn repeats(table: &[u32], top: usize, items: u32) -> bool
-    requires { ⌜ SomeRow (now table) top items ⌝ }
+    requires { ⌜ SomeLast (now table) top items ⌝ }
     ensures { λ r. ⌜ TellsLast r (now (table .entry)) top items (λ front q. repeats (past front []) q) ⌝ }
 {
     let mut end = start(table, top);
@@ -129,9 +130,9 @@ fn repeats(table: &[u32], top: usize, items: u32) -> bool
     false
 }
 
-// T6: whether the last part of a row has no group and equals an earlier one.
+// T6: whether the last part of a series has no group and equals an earlier one.
 fn goes(table: &[u32], top: usize, items: u32) -> bool
-    requires { ⌜ SomeRow (now table) top items ⌝ }
+    requires { ⌜ SomeLast (now table) top items ⌝ }
     ensures { λ r. ⌜ TellsLast r (now (table .entry)) top items (λ front q. goes (past front []) q) ⌝ }
 {
     let part = own(table, top);
@@ -141,9 +142,9 @@ fn goes(table: &[u32], top: usize, items: u32) -> bool
     repeats(table, top, items)
 }
 
-// Whether the last part of a row is what a law looks for.
+// Whether the last part of a series is what a law looks for.
 fn marked(table: &[u32], top: usize, items: u32, mark: Mark) -> bool
-    requires { ⌜ SomeRow (now table) top items ⌝ }
+    requires { ⌜ SomeLast (now table) top items ⌝ }
     ensures { λ r. ⌜ TellsLast r (now (table .entry)) top items (λ front q. marks mark (past front []) q) ⌝ }
 {
     match mark {
@@ -187,7 +188,7 @@ fn has_marked(table: &[u32], top: usize, kind: u32, mark: Mark) -> bool
 // T1: an item of a sequence is empty.
 pub fn empty_item(table: &[u32], top: usize) -> bool
     requires { ⌜ SomePart (now table) top ⌝ }
-    ensures { λ r. ⌜ Tells r (now (table .entry)) top (fits 1) ⌝ }
+    ensures { λ r. ⌜ Tells r (now (table .entry)) top (fits t1) ⌝ }
 {
     has_marked(table, top, SEQUENCE, Mark::Empty)
 }
@@ -195,7 +196,7 @@ pub fn empty_item(table: &[u32], top: usize) -> bool
 // T6: an alternative without groups equals an earlier one.
 pub fn equal_alternative(table: &[u32], top: usize) -> bool
     requires { ⌜ SomePart (now table) top ⌝ }
-    ensures { λ r. ⌜ Tells r (now (table .entry)) top (fits 6) ⌝ }
+    ensures { λ r. ⌜ Tells r (now (table .entry)) top (fits t6) ⌝ }
 {
     has_marked(table, top, ALTERNATION, Mark::Equal)
 }
@@ -203,7 +204,7 @@ pub fn equal_alternative(table: &[u32], top: usize) -> bool
 // T7: an alternative is a set with no byte, or an item of a sequence without groups.
 pub fn void_part(table: &[u32], top: usize) -> bool
     requires { ⌜ SomePart (now table) top ⌝ }
-    ensures { λ r. ⌜ Tells r (now (table .entry)) top (fits 7) ⌝ }
+    ensures { λ r. ⌜ Tells r (now (table .entry)) top (fits t7) ⌝ }
 {
     if has_marked(table, top, ALTERNATION, Mark::Void) {
         return true;
@@ -218,7 +219,7 @@ pub fn void_part(table: &[u32], top: usize) -> bool
 // T8: two neighbours among the alternatives begin with the same byte set.
 pub fn shared_first(table: &[u32], top: usize) -> bool
     requires { ⌜ SomePart (now table) top ⌝ }
-    ensures { λ r. ⌜ Tells r (now (table .entry)) top (fits 8) ⌝ }
+    ensures { λ r. ⌜ Tells r (now (table .entry)) top (fits t8) ⌝ }
 {
     has_marked(table, top, ALTERNATION, Mark::Alike)
 }

@@ -126,7 +126,6 @@ distinct-trimmed seen (r ∷ l) = let o : Option (List Node) = distinct (r ∷ s
     (further seen l r o (distinct-trimmed (r ∷ seen) l))
 
 pub t6-kept : (r : Node) → Ok (Kept r) (t6 r)
-unfolding t6
 t6-kept = on-alternatives (distinct []) (distinct-trimmed [])
 
 -- T7: an empty set, which leads nowhere.

@@ -1,5 +1,5 @@
 -- A law fits exactly where its words apply.
-use mathlib.Core.Path.{_≡_, refl, sym, ap, subst, _∙_}
+use mathlib.Core.Path.{_≡_, refl, sym, ap, _∙_}
 use mathlib.Core.Logic.{_⊎_, inl, inr}
 use mathlib.Core.Bool.{Bool, true, false, cond, _&&_, _||_, Bool·beq, or-true, false≢true}
 use mathlib.Core.Option.{Option, none, some, Option·map, IsSome, Option·none-ne-some}
@@ -17,13 +17,13 @@ use Rattle.tidying_laws.specs.Equal.{same, same-eq}
 use Rattle.meaning.specs.Flat.{items, alternatives, ofItems, ofAlternatives}
 use Rattle.tidying_laws.specs.Laws.{when, isEmpty, filled, counts, isVoid, onAlternatives, distinct, possible, impossible}
 use Rattle.tidying_laws.specs.Laws.{firstSet, restOf, run, shared, sharedAt, share}
-use Rattle.tidying_laws.specs.Laws.{t1, t2, t3, t4, t5, t6, t7, t8, t9, laws}
-use Rattle.tidying_laws.specs.Kept.{Ok, ok-test, ok-when, ok-else, ok-map, ok-two, Each}
+use Rattle.tidying_laws.specs.Laws.{t1, t2, t3, t4, t5, t6, t7, t8, t9}
+use Rattle.tidying_laws.specs.Kept.{Ok, ok-test, ok-when, ok-else, ok-map, ok-two}
 use Rattle.tidying_laws.specs.Alternatives.{past, void-set}
 use Rattle.tidying_laws.specs.Quantifiers.{counts-eq, tests, on-many, on-assert}
 use Rattle.tidying_laws.specs.Runs.{Longest, run-longest}
 use Rattle.tidying_laws.specs.Words.{EmptyItem, Times, OnceOrNever, ManyEmpty, ManyAssertion, LoopOfLoops}
-use Rattle.tidying_laws.specs.Words.{EqualAlternative, EmptySet, SameFirst, OptionOfOption, words}
+use Rattle.tidying_laws.specs.Words.{EqualAlternative, EmptySet, SameFirst, OptionOfOption}
 use Rattle.tidying_laws.specs.Fits.{t1-fits, t2-fits, t3-fits, t4-fits, t5-fits, t6-fits, t7-fits, t8-fits, t9-fits}
 
 -- A law fits where its words apply, and nowhere else.
@@ -46,8 +46,7 @@ passes p (q ∷ l) h = by (λ t. passes p l t) (p q) refl h
 one-fewer : (a b l : List Node) (r : Node) → l ≡ a ++ r ∷ b → 2 ≤ length l → 1 ≤ length (a ++ b)
 one-fewer a b l r e h = omega (arith, length-append a b, length-append a (r ∷ b), ap length e)
 
-t1-exact : Exact t1 EmptyItem
-unfolding t1
+pub t1-exact : Exact t1 EmptyItem
 t1-exact = record {
   fits = t1-fits;
   only = λ r. let l : List Node = items r in
@@ -57,8 +56,7 @@ t1-exact = record {
       (a, b, e ∙ ap (λ s. a ++ s ∷ b) (same-eq q empty f), one-fewer a b l q e h)));
 }
 
-t2-exact : Exact t2 OnceOrNever
-unfolding t2
+pub t2-exact : Exact t2 OnceOrNever
 t2-exact = record {
   fits = t2-fits;
   only = on-many (λ r q. OnceOrNever r) _ (λ n e lazy r. let P : Node → Type 0 = λ q. OnceOrNever (many n e lazy r) in
@@ -74,24 +72,21 @@ t2-exact = record {
         let (a, b) = counts-eq n e m (some 0) c in
         (lazy, r, rw (a, b), p)
 
-t3-exact : Exact t3 ManyEmpty
-unfolding t3
+pub t3-exact : Exact t3 ManyEmpty
 t3-exact = record {
   fits = t3-fits;
   only = on-many (λ r q. ManyEmpty r) _ (λ n e lazy r.
       ok-when (λ q. ManyEmpty (many n e lazy r)) (isEmpty r) empty (λ t. (n, e, lazy, rw (same-eq r empty t))));
 }
 
-t4-exact : Exact t4 ManyAssertion
-unfolding t4
+pub t4-exact : Exact t4 ManyAssertion
 t4-exact = record {
   fits = t4-fits;
   only = on-many (λ r q. ManyAssertion r) _ (λ n e lazy.
       on-assert (λ r q. ManyAssertion (many n e lazy r)) _ (λ a. (n, e, lazy, a, refl)));
 }
 
-t5-exact : Exact t5 LoopOfLoops
-unfolding t5
+pub t5-exact : Exact t5 LoopOfLoops
 t5-exact = record {
   fits = t5-fits;
   only = on-many (λ r q. LoopOfLoops r) _ (λ n e lazy. on-many (λ r q. LoopOfLoops (many n e lazy r)) _ (λ m f inner r.
@@ -101,8 +96,7 @@ t5-exact = record {
       (inner, lazy, r, rw (a, b, c, d), o, p))));
 }
 
-t9-exact : Exact t9 OptionOfOption
-unfolding t9
+pub t9-exact : Exact t9 OptionOfOption
 t9-exact = record {
   fits = t9-fits;
   only = on-many (λ r q. OptionOfOption r) _ (λ n e lazy. on-many (λ r q. OptionOfOption (many n e lazy r)) _ (λ m f inner r.
@@ -145,8 +139,7 @@ any-past p (r ∷ a) seen h = by (any-past p a (r ∷ seen) h) (p r) refl
     by (inr t) true e = inl refl
     by (inr t) false e = inr (rw e at t)
 
-t6-exact : Exact t6 EqualAlternative
-unfolding t6
+pub t6-exact : Exact t6 EqualAlternative
 t6-exact = record {
   fits = t6-fits;
   only = λ r. on-list EqualAlternative (Repeats []) (distinct []) (distinct-finds []) r (λ h t.
@@ -175,8 +168,7 @@ possible-finds (r ∷ l) = let P : List Node → Type 0 = λ m. Voids (r ∷ l) 
     (ok-map P (λ m. Voids l) (λ m. r ∷ m) (λ m t. let (a, b, s, e, h) = t in (r ∷ a, b, s, ap (λ m. r ∷ m) e, h))
     (possible l) (possible-finds l))
 
-t7-exact : Exact t7 EmptySet
-unfolding t7
+pub t7-exact : Exact t7 EmptySet
 t7-exact = record {
   fits = t7-fits;
   only = λ r. let l : List Node = items r in let P : Node → Type 0 = λ q. EmptySet r in
@@ -232,29 +224,5 @@ share-finds (r ∷ l) = let P : List Node → Type 0 = λ m. Pairs (r ∷ l) in
     at none = tt
     at (some s) = run-finds s (r ∷ l) (run s (r ∷ l) .0) (run s (r ∷ l) .1) (run-longest s (r ∷ l))
 
-t8-exact : Exact t8 SameFirst
-unfolding t8
+pub t8-exact : Exact t8 SameFirst
 t8-exact = record { fits = t8-fits; only = λ r. on-list SameFirst Pairs share share-finds r (λ h t. t) }
-
--- Two lists whose elements are related one by one.
-abbrev pub Match : {A : Type 0} {B : Type 1} → (A → B → Type 0) → List A → List B → Type 0
-Match R [] [] = Unit {0}
-Match R [] (y ∷ m) = ⊥
-Match R (x ∷ l) [] = ⊥
-Match R (x ∷ l) (y ∷ m) = R x y × Match R l m
-
--- Each law of the list fits exactly where its words apply.
-pub laws-exact : Match Exact laws words
-unfolding laws words
-laws-exact = (t1-exact, (t2-exact, (t3-exact, (t4-exact, (t5-exact, (t6-exact, (t7-exact, (t8-exact, (t9-exact, tt)))))))))
-
--- Where no law of the list fits, the words of none apply.
-pub no-words : (r : Node) → Each (λ f. f r ≡ none) laws → Each (λ W. W r → ⊥) words
-no-words r h = go laws words laws-exact h
-  where
-    go : (l : List (Node → Option Node)) (m : List (Node → Type 0)) → Match Exact l m → Each (λ f. f r ≡ none) l
-        → Each (λ W. W r → ⊥) m
-    go [] [] e h = tt
-    go [] (W ∷ m) e h = absurd e
-    go (f ∷ l) [] e h = absurd e
-    go (f ∷ l) (W ∷ m) e h = (λ x. subst IsSome (h .0) (e .0 .fits r x), go l m (e .1) (h .1))

@@ -56,29 +56,23 @@ one-more : (a b : List Node) (r : Node) → 1 ≤ length (a ++ b) → 2 ≤ leng
 one-more a b r h = rw length-append (omega (arith, length-append a b))
 
 pub t1-fits : (r : Node) → EmptyItem r → IsSome (t1 r)
-unfolding t1
 t1-fits r h = let (a, b, e, g) = h in
     on-list sequence _ r (a ++ empty ∷ b) e (one-more a b empty g) (rw (any-has isEmpty a b empty (same-refl empty)) tt)
 
 pub t2-fits : (r : Node) → OnceOrNever r → IsSome (t2 r)
-unfolding t2
 t2-fits r (inl h) = rw (h .2, h .3) tt
 t2-fits r (inr h) = rw (h .2, h .3) tt
 
 pub t3-fits : (r : Node) → ManyEmpty r → IsSome (t3 r)
-unfolding t3
 t3-fits r h = rw (h .3, same-refl empty) tt
 
 pub t4-fits : (r : Node) → ManyAssertion r → IsSome (t4 r)
-unfolding t4
 t4-fits r h = rw (h .4) tt
 
 pub t5-fits : (r : Node) → LoopOfLoops r → IsSome (t5 r)
-unfolding t5
 t5-fits r h = rw (h .3, h .4, h .5) tt
 
 pub t9-fits : (r : Node) → OptionOfOption r → IsSome (t9 r)
-unfolding t9
 t9-fits r h = rw (h .2, h .3, beq-refl (h .0)) tt
 
 -- An alternative that is equal to one that was seen, and to one before it.
@@ -100,7 +94,6 @@ equal-fits seen (q ∷ a) b m r p = let l : List Node = a ++ r ∷ (b ++ r ∷ m
     (some-map (λ l. q ∷ l) (distinct (q ∷ seen) l) (equal-fits (q ∷ seen) a b m r p))
 
 pub t6-fits : (r : Node) → EqualAlternative r → IsSome (t6 r)
-unfolding t6
 t6-fits r h = let (a, b, m, q, e, g) = h in let l : List Node = a ++ q ∷ (b ++ q ∷ m) in
     on-list alternation _ r l e (one-more a (b ++ q ∷ m) q (some-more a b m q))
     (some-map ofAlternatives (distinct [] l) (equal-fits [] a b m q g))
@@ -113,7 +106,6 @@ void-fits (q ∷ a) b s h = let l : List Node = a ++ bset s ∷ b in
     (some-map (λ l. q ∷ l) (possible l) (void-fits a b s h))
 
 pub t7-fits : (r : Node) → EmptySet r → IsSome (t7 r)
-unfolding t7
 t7-fits r (inl h) = let (a, b, s, e, g, v) = h in let l : List Node = a ++ bset s ∷ b in
     some-first (onAlternatives possible r) (impossible r)
     (on-list alternation _ r l e (one-more a b (bset s) g) (some-map ofAlternatives (possible l) (void-fits a b s v)))
@@ -130,7 +122,6 @@ share-fits (x ∷ a) b p q s l m e f = let t : List Node = a ++ p ∷ q ∷ b in
     (some-map (λ m. x ∷ m) (share t) (share-fits a b p q s l m e f))
 
 pub t8-fits : (r : Node) → SameFirst r → IsSome (t8 r)
-unfolding t8
 t8-fits r h = let (a, b, p, q, s, l, m, e, f, g) = h in let t : List Node = a ++ p ∷ q ∷ b in
     on-list alternation _ r t e (one-more a (q ∷ b) p (some-more a [] b q))
     (some-map ofAlternatives (share t) (share-fits a b p q s l m f g))

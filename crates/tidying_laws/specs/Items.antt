@@ -133,7 +133,6 @@ filled-kept r m h f t = record {
     cheap (r ∷ l) n h g = omega (arith, adds-link (cost-adds sequence) r l)
 
 pub t1-kept : (r : Node) → Ok (Kept r) (t1 r)
-unfolding t1
 t1-kept r = let l : List Node = items r in
     ok-two (Kept r) (λ l. when (any isEmpty l) (ofItems (filled l))) l (λ h.
     ok-when (Kept r) (any isEmpty l) (ofItems (filled l)) (λ t.
@@ -181,7 +180,6 @@ dead-kept r h p d = record {
 }
 
 pub t7-kept : (r : Node) → Ok (Kept r) (t7 r)
-unfolding t7
 t7-kept r = let l : List Node = items r in
     ok-else (Kept r) (onAlternatives possible r) (impossible r) (possible-kept r)
     (ok-two (Kept r) (λ l. when (groupFree r && any isVoid l) (bset void)) l (λ h.

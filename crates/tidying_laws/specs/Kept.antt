@@ -3,10 +3,11 @@ use mathlib.Core.Path.{_≡_, refl, sym, ap, _∙_}
 use mathlib.Core.Bool.{Bool, true, false, cond}
 use mathlib.Core.Option.{Option, none, some, Option·map}
 use mathlib.Core.List.{List, [], _∷_, _++_, map}
-use Prim.Native.Nat.{ℕ, suc, _+_, _≤_, _<_}
+use Prim.Native.Nat.{ℕ, _+_, _≤_, _<_}
 use native.Mathlib.Nat.{mul-le-mul-left}
 use native.Mathlib.Omega.{arith}
 use lib.ListN.{length}
+use Rattle.meaning.specs.All.{All}
 use Rattle.meaning.specs.Node.{Node, Node.group, Node.many, Proper}
 use Rattle.meaning.specs.Results.{orElse}
 use Rattle.machine.specs.Layout.{sizeOf}
@@ -17,7 +18,6 @@ use Rattle.tidying_laws.specs.Measures.{weight, weight-adds, rows-adds, 
 use Rattle.tidying_laws.specs.Tried.{order-pair, glue-pair}
 use Rattle.tidying_laws.specs.Charge.{extra, charge, Light, light-left, light-right}
 use Rattle.tidying_laws.specs.Laws.{when, two}
-use Rattle.tidying_laws.specs.Tidier.{firstAt}
 
 -- P holds of a result, if there is one.
 abbrev pub Ok {ℓ κ} : {A : Type ℓ} → (A → Type κ) → Option A → Type κ
@@ -45,31 +45,6 @@ module _ {κ} {A : Type 0} (P : A → Type κ) where
   ok-two f [] h = tt
   ok-two f (r ∷ []) h = tt
   ok-two f (r ∷ q ∷ l) h = h (omega arith)
-
--- P holds of every element.
-abbrev pub Each {ℓ κ} : {A : Type ℓ} → (A → Type κ) → List A → Type κ
-Each P [] = Unit
-Each P (x ∷ l) = P x × Each P l
-
-pub each-map {κ μ} : {A B : Type 0} (P : A → Type κ) (Q : B → Type μ) (f : A → B)
-    → ((x : A) → P x → Q (f x)) → (l : List A) → Each P l → Each Q (map f l)
-each-map P Q f g [] h = tt
-each-map P Q f g (x ∷ l) h = (g x (h .0), each-map P Q f g l (h .1))
-
-pub each-append {κ} : {A : Type 0} (P : A → Type κ) (l m : List A) → Each P l → Each P m → Each P (l ++ m)
-each-append P [] m h g = g
-each-append P (x ∷ l) m h g = (h .0, each-append P l m (h .1) g)
-
-pub each-imp {κ μ} : {A : Type 0} (P : A → Type κ) (Q : A → Type μ) → ((x : A) → P x → Q x) → (l : List A) → Each P l → Each Q l
-each-imp P Q f [] h = tt
-each-imp P Q f (x ∷ l) h = (f x (h .0), each-imp P Q f l (h .1))
-
--- What holds of every success holds of the first.
-pub ok-first {κ} : {A B : Type 0} (P : B → Type κ) (c : A → Option B) (n : ℕ) (l : List A)
-    → Each (λ x. Ok P (c x)) l → Ok (λ t. P (t .1)) (firstAt c n l)
-ok-first P c n [] h = tt
-ok-first P c n (x ∷ l) h = ok-else (λ t. P (t .1)) (Option·map (λ b. (n, b)) (c x)) (firstAt c (suc n) l)
-    (ok-map (λ t. P (t .1)) P (λ b. (n, b)) (λ b g. g) (c x) (h .0)) (ok-first P c (suc n) l (h .1))
 
 -- What a law keeps of a pattern.
 pub record Kept (r q : Node) : Type 1 where

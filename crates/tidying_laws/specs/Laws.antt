@@ -67,24 +67,24 @@ unfoldable pub filled : List Node → List Node
 filled [] = []
 filled (r ∷ l) = cond (isEmpty r) (filled l) (r ∷ filled l)
 
-unfoldable pub t1 : Node → Option Node
+abbrev pub t1 : Node → Option Node
 t1 = onParts sequence (λ l. when (any isEmpty l) (ofItems (filled l)))
 
 -- T2: r{1} is r, and r{0} is empty.
-unfoldable pub t2 : Node → Option Node
+abbrev pub t2 : Node → Option Node
 t2 = onMany (λ n e lazy r.
     orElse (when (counts n e 1 (some 0) && groupFree r) r) (when (counts n e 0 (some 0) && groupFree r) empty))
 
 -- T3: a quantified empty is empty.
-unfoldable pub t3 : Node → Option Node
+abbrev pub t3 : Node → Option Node
 t3 = onMany (λ n e lazy r. when (isEmpty r) empty)
 
 -- T4: an assertion with a minimum of 0 is empty, with one of 1 or more it is itself.
-unfoldable pub t4 : Node → Option Node
+abbrev pub t4 : Node → Option Node
 t4 = onMany (λ n e lazy. onAssert (λ a. some (cond (eqb n 0) empty (assert a))))
 
 -- T5: (?:r*)* and (?:r*?)* are r*; (?:r*?)*? is r*?.
-unfoldable pub t5 : Node → Option Node
+abbrev pub t5 : Node → Option Node
 t5 = onMany (λ n e lazy. onMany (λ m f inner r.
     when (counts n e 0 none && counts m f 0 none && absorbed inner lazy && groupFree r) (many 0 none lazy r)))
 
@@ -93,7 +93,7 @@ unfoldable pub distinct : List Node → List Node → Option (List Node)
 distinct seen [] = none
 distinct seen (r ∷ l) = cond (groupFree r && any (same r) seen) (some l) (Option·map (λ m. r ∷ m) (distinct (r ∷ seen) l))
 
-unfoldable pub t6 : Node → Option Node
+abbrev pub t6 : Node → Option Node
 t6 = onAlternatives (distinct [])
 
 -- The byte set that a part is, unquantified; and whether it has no byte.
@@ -117,7 +117,7 @@ possible (r ∷ l) = cond (isVoid r) (some l) (Option·map (λ m. r ∷ m) (poss
 abbrev pub impossible : Node → Option Node
 impossible r = onParts sequence (λ l. when (groupFree r && any isVoid l) (bset void)) r
 
-unfoldable pub t7 : Node → Option Node
+abbrev pub t7 : Node → Option Node
 t7 r = orElse (onAlternatives possible r) (impossible r)
 
 -- T8. The byte set that is the first item of a pattern, and what is left of a pattern whose first item is s.
@@ -160,14 +160,10 @@ unfoldable pub share : List Node → Option (List Node)
 share [] = none
 share (r ∷ l) = orElse (sharedAt (firstSet (items r)) (r ∷ l)) (Option·map (λ m. r ∷ m) (share l))
 
-unfoldable pub t8 : Node → Option Node
+abbrev pub t8 : Node → Option Node
 t8 = onAlternatives share
 
 -- T9: (?:r?)? is r?; (?:r??)?? is r??.
-unfoldable pub t9 : Node → Option Node
+abbrev pub t9 : Node → Option Node
 t9 = onMany (λ n e lazy. onMany (λ m f inner r.
     when (counts n e 0 (some 1) && counts m f 0 (some 1) && Bool·beq lazy inner && groupFree r) (many 0 (some 1) lazy r)))
-
--- The laws, in order.
-unfoldable pub laws : List (Node → Option Node)
-laws = t1 ∷ t2 ∷ t3 ∷ t4 ∷ t5 ∷ t6 ∷ t7 ∷ t8 ∷ t9 ∷ []

@@ -3,10 +3,10 @@ use mathlib.Core.Path.{_≡_, refl}
 use mathlib.Core.List.{List, [], _∷_, _++_, append-nil, append-assoc}
 use Prim.Native.Nat.{ℕ, suc, _+_, _≤_}
 use native.Mathlib.Omega.{arith}
-use Rattle.meaning.specs.Node.{Node, Node.empty, Node.bset, Node.assert, Node.group, Node.seq, Node.alt, Node.many, Proper}
+use Rattle.meaning.specs.Node.{Node, Node.empty, Node.bset, Node.assert, Node.group, Node.seq, Node.alt, Node.many}
 use Rattle.machine.specs.Layout.{sizeOf}
 use Rattle.tidying_laws.specs.Groups.{groups}
-use Rattle.meaning.specs.Flat.{Kind, Kind.sequence, Kind.alternation, pair, Not, join, fold, Adds, adds-link, Spreads}
+use Rattle.meaning.specs.Flat.{Kind, Kind.sequence, Kind.alternation, pair, join, fold, Adds, adds-link}
 
 -- A sum over a list of parts; and a number that adds up over the parts of a kind.
 abbrev pub total : (Node → ℕ) → List Node → ℕ

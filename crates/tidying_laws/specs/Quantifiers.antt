@@ -75,7 +75,7 @@ on-assert P f h (alt r q) = tt
 on-assert P f h (many n e lazy r) = tt
 
 pub t2-kept : (r : Node) → Ok (Kept r) (t2 r)
-unfolding t2 sizeOf weight charge extra
+unfolding sizeOf weight charge extra
 t2-kept = on-many Kept _ (λ n e lazy r. let P : Node → Type 1 = Kept (many n e lazy r) in
     ok-else P (when (counts n e 1 (some 0) && groupFree r) r) (when (counts n e 0 (some 0) && groupFree r) empty)
     (ok-when P (counts n e 1 (some 0) && groupFree r) r (λ t.
@@ -88,13 +88,13 @@ t2-kept = on-many Kept _ (λ n e lazy r. let P : Node → Type 1 = Kept (many n 
     rw (a, b) (kept (T2-none lazy r p) (λ g. tt) (λ g. tt) (omega (arith, weighs r))))))
 
 pub t3-kept : (r : Node) → Ok (Kept r) (t3 r)
-unfolding t3 sizeOf weight charge extra
+unfolding sizeOf weight charge extra
 t3-kept = on-many Kept _ (λ n e lazy r.
     ok-when (Kept (many n e lazy r)) (isEmpty r) empty (λ t.
     rw (same-eq r empty t) (kept (T3 n e lazy) (λ g. tt) (λ g. tt) (omega arith))))
 
 pub t4-kept : (r : Node) → Ok (Kept r) (t4 r)
-unfolding t4 sizeOf weight charge extra
+unfolding sizeOf weight charge extra
 t4-kept = on-many Kept _ (λ n e lazy. on-assert (λ p q. Kept (many n e lazy p) q) _ (λ a. by n e lazy a))
   where
     by : (n : ℕ) (e : Option ℕ) (lazy : Bool) (a : ℕ) → Kept (many n e lazy (assert a)) (cond (eqb n 0) empty (assert a))
@@ -103,7 +103,7 @@ t4-kept = on-many Kept _ (λ n e lazy. on-assert (λ p q. Kept (many n e lazy p)
     by (suc n) (some k) lazy a = rw (eqb·suc-zero n) (kept (T4-some n (some k) lazy a) (λ g. tt) (λ g. g .1) (omega arith))
 
 pub t5-kept : (r : Node) → Ok (Kept r) (t5 r)
-unfolding t5 sizeOf weight charge extra
+unfolding sizeOf weight charge extra
 t5-kept = on-many Kept _ (λ n e lazy. on-many (λ p q. Kept (many n e lazy p) q) _ (λ m f inner r.
     ok-when (Kept (many n e lazy (many m f inner r)))
     (counts n e 0 none && counts m f 0 none && absorbed inner lazy && groupFree r) (many 0 none lazy r) (λ t.
@@ -111,7 +111,7 @@ t5-kept = on-many Kept _ (λ n e lazy. on-many (λ p q. Kept (many n e lazy p) q
     rw (a, b, c, d) (kept (T5 inner lazy o r p) (λ g. g) (λ g. g .1) (omega arith)))))
 
 pub t9-kept : (r : Node) → Ok (Kept r) (t9 r)
-unfolding t9 sizeOf weight charge extra
+unfolding sizeOf weight charge extra
 t9-kept = on-many Kept _ (λ n e lazy. on-many (λ p q. Kept (many n e lazy p) q) _ (λ m f inner r.
     ok-when (Kept (many n e lazy (many m f inner r)))
     (counts n e 0 (some 1) && counts m f 0 (some 1) && Bool·beq lazy inner && groupFree r) (many 0 (some 1) lazy r) (λ t.

@@ -214,5 +214,4 @@ share-trimmed seen (r ∷ l) = let s : Option (List ℕ) = firstSet (items r) in
     at l (some s) = by s l (run s l .0) (run s l .1) (longest-shares s l (run s l) (run-longest s l))
 
 pub t8-kept : (r : Node) → Ok (Kept r) (t8 r)
-unfolding t8
 t8-kept = on-alternatives share (share-trimmed [])

@@ -6,7 +6,7 @@ use Rattle.meaning.specs.Node.{Node, Node.empty, Node.bset, Node.assert, Node.g
 use Rattle.meaning.specs.Results.{orElse}
 use Rattle.meaning.specs.Flat.{Kind, Kind.sequence, Kind.alternation, glue}
 use Rattle.tidying_laws.specs.Measures.{weight}
-use Rattle.tidying_laws.specs.Laws.{laws}
+use Rattle.tidying_laws.specs.List.{laws}
 
 -- A part of a pattern, and what the pattern is with another in its place.
 pub record Place : Type 0 where
@@ -48,9 +48,9 @@ firstAt c n (x ∷ l) = let later = firstAt c (suc n) l in orElse (Option·map (
 unfoldable pub lowest : Node → Option (ℕ × Node)
 lowest r = firstAt (λ f. f r) 1 laws
 
--- The first place at which a law fits: its number, from 0, the lowest law there, and what the pattern becomes.
+-- The first place at which a law fits: its number, from 1, the lowest law there, and what the pattern becomes.
 unfoldable pub found : Node → Option (ℕ × (ℕ × Node))
-found r = firstAt (λ p. Option·map (λ t. (t .0, p .put (t .1))) (lowest (p .part))) 0 (places none r)
+found r = firstAt (λ p. Option·map (λ t. (t .0, p .put (t .1))) (lowest (p .part))) 1 (places none r)
 
 -- What one step makes of a pattern.
 unfoldable pub tidyStep : Node → Option Node

@@ -15,13 +15,12 @@ use Rattle.tidying_laws.specs.Around.{Around, fill, same-match, same-sea
 use Rattle.meaning.specs.Flat.{Flat}
 use Rattle.tidying_laws.specs.Measures.{weight, weighs}
 use Rattle.tidying_laws.specs.Charge.{charge, records, records-bound}
-use Rattle.tidying_laws.specs.Laws.{laws}
-use Rattle.tidying_laws.specs.Words.{words}
-use Rattle.tidying_laws.specs.Exact.{no-words}
+use Rattle.tidying_laws.specs.List.{laws, words}
 use Rattle.tidying_laws.specs.Tidier.{tidyStep, settle, tidies, tidy}
-use Rattle.tidying_laws.specs.Found.{Done, done}
+use Rattle.tidying_laws.specs.Found.{Done, done, no-words}
 use Rattle.tidying_laws.specs.Within.{Stands, everywhere}
-use Rattle.tidying_laws.specs.Kept.{Ok, Each, Kept}
+use Rattle.meaning.specs.All.{All}
+use Rattle.tidying_laws.specs.Kept.{Ok, Kept}
 use Rattle.tidying_laws.specs.Steps.{step-kept}
 
 -- What any number of steps keeps.
@@ -160,9 +159,9 @@ module _ (r : Node) (n : ℕ) (h : Numbers 1 r n) where
   tidy-done = done (tidy r) tidy-none
 
   -- In the outline's words: none of its laws applies to any part of it, wherever that stands.
-  pub tidy-clean : (a : Around) (q : Node) → fill a q ≡ tidy r → Stands none a q → Each (λ W. W q → ⊥) words
+  pub tidy-clean : (a : Around) (q : Node) → fill a q ≡ tidy r → Stands none a q → All (λ W. W q → ⊥) words
   tidy-clean a q e s =
-      no-words q (everywhere (λ q. Each (λ f. f q ≡ none) laws) none a q s (subst (λ (r : Node). Done r) (sym e) tidy-done))
+      no-words q (everywhere (λ q. All (λ f. f q ≡ none) laws) none a q s (subst (λ (r : Node). Done r) (sym e) tidy-done))
 
   -- To tidy again changes nothing.
   pub tidy-again : tidy (tidy r) ≡ tidy r

@@ -12,7 +12,8 @@ use Rattle.tidying_laws.specs.Equal.{same, decList, decOption}
 use Rattle.meaning.specs.Flat.{parts}
 use Rattle.tidying_laws.specs.Measures.{weight}
 use Rattle.tidying_laws.specs.Charge.{isPair, records}
-use Rattle.tidying_laws.specs.Laws.{t1, t2, t3, t4, t5, t6, t7, t8, t9, laws, filled, distinct, possible, run, glues}
+use Rattle.tidying_laws.specs.List.{laws}
+use Rattle.tidying_laws.specs.Laws.{filled, distinct, possible, run, glues}
 use Rattle.tidying_laws.specs.Laws.{share}
 use Rattle.tidying_laws.specs.Refuted.{letter, a, b, star, option}
 use Rattle.tidying_laws.specs.Tidier.{places, lowest, found, tidyStep, tidies, tidy}
@@ -88,7 +89,7 @@ table =
     ∷ []
 
 vectors : map (λ t. tidy (t .0)) table ≡ map (λ t. t .1) table
-unfolding tidy tidies tidyStep found lowest laws t1 t2 t3 t4 t5 t6 t7 t8 t9 places weight parts same decList decOption ℕ-discrete
+unfolding tidy tidies tidyStep found lowest laws places weight parts same decList decOption ℕ-discrete
     groupFree groups filled distinct possible run glues share noBytes has bit
 vectors = refl
 
@@ -118,16 +119,16 @@ tidied =
     ∷ []
 
 stay : map found tidied ≡ map (λ r. none) tidied
-unfolding found lowest laws t1 t2 t3 t4 t5 t6 t7 t8 t9 places parts same decList decOption ℕ-discrete
+unfolding found lowest laws places parts same decList decOption ℕ-discrete
     groupFree groups filled distinct possible run glues share noBytes has bit
 stay = refl
 
 -- The place and the law that a search ends at: of (?:a*)*|b|b the third part, by T5, and then the fifth, by T6;
 -- of a|ab|c|cd the last, by T8 at its leftmost run.
-steps : (found (alt (star false (star false a)) (alt b b)) ≡ some (2, (5, alt (star false a) (alt b b))))
-    × (found (alt (star false a) (alt b b)) ≡ some (4, (6, alt (star false a) b)))
-    × (found (alt a (alt (seq a b) (alt c (seq c d)))) ≡ some (8, (8, alt (seq a (alt empty b)) (alt c (seq c d)))))
-unfolding found lowest laws t1 t2 t3 t4 t5 t6 t7 t8 t9 places parts same decList decOption ℕ-discrete
+steps : (found (alt (star false (star false a)) (alt b b)) ≡ some (3, (5, alt (star false a) (alt b b))))
+    × (found (alt (star false a) (alt b b)) ≡ some (5, (6, alt (star false a) b)))
+    × (found (alt a (alt (seq a b) (alt c (seq c d)))) ≡ some (9, (8, alt (seq a (alt empty b)) (alt c (seq c d)))))
+unfolding found lowest laws places parts same decList decOption ℕ-discrete
     groupFree groups filled distinct possible run glues share noBytes has bit
 steps = (refl, refl, refl)
 

@@ -7,7 +7,7 @@ use Rattle.tidying_laws.specs.Around.{Around.below}
 use Rattle.tidying_laws.specs.Around.{Around.inMany, fill}
 use Rattle.meaning.specs.Flat.{Kind, Kind.sequence, Kind.alternation, pair, Not, glue}
 use Rattle.tidying_laws.specs.Tidier.{Place, itself, inside, whole, places}
-use Rattle.tidying_laws.specs.Kept.{Each}
+use Rattle.meaning.specs.All.{All}
 
 -- What stands inside a pattern is a part of it, unless it is the end of a sequence or an alternation and of that kind.
 abbrev pub Stands : Option Kind → Around → Node → Type 0
@@ -23,7 +23,7 @@ Stands t (inMany n e lazy a) q = Stands none a q
 module _ {κ} (P : Node → Type κ) where
   -- P holds of the part at each place.
   abbrev Parts : List Place → Type κ
-  Parts l = Each (λ p. P (p .part)) l
+  Parts l = All (λ p. P (p .part)) l
 
   -- So it does at the places inside a part, and at those after them;
   nest : (f : Node → Node) (l m : List Place) → Parts (map (inside f) l ++ m) → Parts l × Parts m

@@ -61,8 +61,3 @@ SameFirst r = (a : List Node) × (b : List Node) × (p : Node) × (q : Node) × 
 -- T9: (?:q?)? or (?:q??)??.
 abbrev pub OptionOfOption : Node → Type 0
 OptionOfOption r = (lazy : Bool) × (q : Node) × (r ≡ many 0 (some 1) lazy (many 0 (some 1) lazy q)) × (groupFree q ≡ true)
-
--- The words of the laws, in order.
-unfoldable pub words : List (Node → Type 0)
-words = EmptyItem ∷ OnceOrNever ∷ ManyEmpty ∷ ManyAssertion ∷ LoopOfLoops
-    ∷ EqualAlternative ∷ EmptySet ∷ SameFirst ∷ OptionOfOption ∷ []

@@ -1,82 +1,72 @@
--- What is carried out for the law of each number: the law itself, or a wider one that several laws have in common.
-use mathlib.Core.Path.{_≡_, refl, sym, ap, subst, _∙_}
-use mathlib.Core.Option.{none, some, Option·none-ne-some}
-use mathlib.Core.List.{List, [], _∷_}
-use Prim.Native.Nat.{ℕ, zero, suc, _≤_}
-use native.Mathlib.Decide.{decLe}
-use native.Mathlib.Omega.{arith}
-use lib.ListN.{getD, List·getD-eq-default}
-use Rattle.meaning.specs.Node.{Node}
-use Rattle.tidying_laws.specs.Laws.{laws, t1, t7, t8}
-use Rattle.tidying_fitting.specs.Fitting.{lawOf}
-use Rattle.tidying_fitting.specs.declared.Mark.the-variants.{Equal}
-use Rattle.tidying_rewriting.specs.Rewriting.{Law, SomeFitting, Rewrites, Narrower, narrower-same, some-wide}
+-- What is carried out for the law of each number: the law itself, or a wider rule that several laws have in common.
+use mathlib.Core.Path.{_≡_, refl, sym, subst}
+use mathlib.Core.List.{List, [], _∷_, map}
+use Prim.Native.Nat.{ℕ, zero, suc}
+use lib.ListN.{getD}
+use Rattle.tidying_laws.specs.Laws.{t1, t7, t8}
+use Rattle.tidying_laws.specs.List.{laws}
+use Rattle.tidying_laws.specs.ByNumber.{nothing, lawOf, IsLaw}
+use Rattle.tidying_rewriting.specs.Rewriting.{Rule, SomeFitting, Rewrites, Narrower, narrower-same, some-wide}
 use Rattle.tidying_rewriting.specs.Rewriting.{rewrites-narrow}
-use Rattle.tidying_rewriting.specs.Quantifiers.{unquantified, unnested, t2-leaves, t3-leaves, t4-leaves, t5-leaves}
-use Rattle.tidying_rewriting.specs.Quantifiers.{t9-leaves}
-use Rattle.tidying_rewriting.specs.Dropping.{dropping, t6-drops}
+use Rattle.tidying_rewriting.specs.Quantifiers.{t2-leaves, t3-leaves, t4-leaves, t5-leaves, t9-leaves}
+use Rattle.tidying_rewriting.specs.Dropping.{t6-drops}
 
--- The law that fits nothing.
-abbrev nothing : Law
-nothing r = none
+-- A law, and the rule that is carried out for it, which does all that the law does.
+pub record Carrier : Type 0 where
+  pub law : Rule
+  pub wide : Rule
+  pub narrow : Narrower law wide
 
--- T2, T3 and T4 take a quantifier away, T5 and T9 the inner one of two, and T6 an alternative that equals an earlier one.
-abbrev each : List Law
-each = t1 ∷ unquantified ∷ unquantified ∷ unquantified ∷ unnested ∷ dropping Equal ∷ t7 ∷ t8 ∷ unnested ∷ []
+abbrev pub by : {law wide : Rule} → Narrower law wide → Carrier
+by {law} {wide} h = record { law = law; wide = wide; narrow = h }
 
-unfoldable pub carried : ℕ → Law
-carried k = getD (nothing ∷ each) k nothing
-
--- Laws that do no more than others, one by one.
-data Narrowers : List Law → List Law → Type 0 where
-  over : Narrowers [] []
-  then : {l w : Law} {ls ws : List Law} → Narrower l w → Narrowers ls ws → Narrowers (l ∷ ls) (w ∷ ws)
-
-itself : (law : Law) → Narrower law law
+pub itself : (law : Rule) → Narrower law law
 itself law = narrower-same (λ x. refl)
 
-narrow-at : {ls ws : List Law} → Narrowers ls ws → (k : ℕ) → Narrower (getD ls k nothing) (getD ws k nothing)
-narrow-at over k = itself nothing
-narrow-at (then h hs) zero = h
-narrow-at (then h hs) (suc k) = narrow-at hs k
+-- T2, T3 and T4 take a quantifier away, T5 and T9 the inner one of two, and T6 an alternative that equals an earlier one.
+abbrev pub carriers : List Carrier
+carriers =
+    by (itself t1)
+    ∷ by t2-leaves
+    ∷ by t3-leaves
+    ∷ by t4-leaves
+    ∷ by t5-leaves
+    ∷ by t6-drops
+    ∷ by (itself t7)
+    ∷ by (itself t8)
+    ∷ by t9-leaves
+    ∷ []
 
--- The law of a number does no more than what is carried out for it.
-pub narrow : (k : ℕ) → Narrower (lawOf k) (carried k)
+unfoldable pub carried : ℕ → Rule
+carried k = getD (nothing ∷ map (λ c. c .wide) carriers) k nothing
+
+-- The laws of the carriers are those of the list, in its order.
+narrow : (k : ℕ) → Narrower (lawOf k) (carried k)
 unfolding lawOf laws carried
-narrow =
-    narrow-at
-    (then (itself nothing)
-    (then (itself t1)
-    (then t2-leaves
-    (then t3-leaves
-    (then t4-leaves
-    (then t5-leaves
-    (then t6-drops
-    (then (itself t7)
-    (then (itself t8)
-    (then t9-leaves
-    over))))))))))
-
--- A law that fits has a number.
-numbered : (k : ℕ) (x y : Node) → lawOf k x ≡ some y → (1 ≤ k) × (k ≤ 9)
-unfolding lawOf laws
-numbered zero x y e = absurd (Option·none-ne-some y e)
-numbered (suc k) x y e = (omega arith, go (decLe (suc k) 9))
+narrow = go (by (itself nothing) ∷ carriers)
   where
-    go : Dec (suc k ≤ 9) → suc k ≤ 9
-    go (yes h) = h
-    go (no h) = absurd (Option·none-ne-some y
-        (sym (ap (λ f. f x) (List·getD-eq-default (nothing ∷ laws) nothing {n = suc k} (omega arith))) ∙ e))
+    go : (l : List Carrier) (k : ℕ) → Narrower (getD (map (λ c. c .law) l) k nothing) (getD (map (λ c. c .wide) l) k nothing)
+    go [] k = itself nothing
+    go (c ∷ l) zero = c .narrow
+    go (c ∷ l) (suc k) = go l k
 
-pub law-number : {table : List ℕ} {n part : ℕ} (law : ℕ) → SomeFitting (lawOf law) table n part → (1 ≤ law) × (law ≤ 9)
-law-number law s = numbered law (s .node) (s .result) (s .fitting .fits)
+-- What is asked, if a law has the number: that it fits.
+abbrev pub Asked : ℕ → List ℕ → ℕ → ℕ → Type 0
+Asked law table n part = IsLaw law → SomeFitting (lawOf law) table n part
 
--- So where the law of that number fits, what is carried out fits, and it carries out that law.
-module _ {table : List ℕ} {n part law : ℕ} (k : ℕ) (e : law ≡ k) where
-  pub fits-carried : SomeFitting (lawOf law) table n part → SomeFitting (carried k) table n part
-  fits-carried s = subst (λ (k : ℕ). SomeFitting (carried k) table n part) e (some-wide s (narrow law .by (s .node)))
+-- What is done: the law of the number is carried out; and if no law has it, nothing.
+pub record Carries (law : ℕ) (table table′ : List ℕ) (n part n′ : ℕ) : Type 0 where
+  pub by : Rewrites (lawOf law) table table′ n part n′
+  pub nothing-done : (IsLaw law → ⊥) → (table′ ≡ table) × (n′ ≡ n)
 
-  pub rewrites-carried : {table′ : List ℕ} {n′ : ℕ} → Rewrites (carried k) table table′ n part n′
-      → Rewrites (lawOf law) table table′ n part n′
-  rewrites-carried {table′} {n′} r =
-      subst (λ (k : ℕ). Rewrites (lawOf k) table table′ n part n′) (sym e) (rewrites-narrow (narrow k) r)
+-- So where a number is that of a law, what is carried out for it fits, and carries out the law.
+module _ {table : List ℕ} {n part law : ℕ} (k : ℕ) (e : law ≡ k) (l : IsLaw k) where
+  pub fits-carried : Asked law table n part → SomeFitting (carried k) table n part
+  fits-carried asked = let s = asked (rw e l) in
+      subst (λ (k : ℕ). SomeFitting (carried k) table n part) e (some-wide s (narrow law .by (s .node)))
+
+  pub carries : {table′ : List ℕ} {n′ : ℕ} → Rewrites (carried k) table table′ n part n′ → Carries law table table′ n part n′
+  carries {table′} {n′} r = record {
+    by = subst (λ (k : ℕ). Rewrites (lawOf k) table table′ n part n′) (sym e) (rewrites-narrow (narrow k) r);
+    nothing-done = λ h. absurd (h (rw e l));
+  }

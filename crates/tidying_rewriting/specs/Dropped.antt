@@ -11,11 +11,11 @@ use Rattle.table.specs.Table.{recordWords, recordCount, records}
 use Rattle.meaning.specs.All.{All, all-append, all-left, all-right}
 use Rattle.table.specs.Laws.{inner, kindOf, parts-flat}
 use Rattle.table.specs.Laws.{countAll, records-append, long-all}
-use Rattle.table.specs.Stands.{Stands}
-use Rattle.table.specs.Roots.{stands-under}
+use Rattle.table.specs.Stands.{Stands, Ends, Series, SomePart}
+use Rattle.table.specs.Roots.{inside, among-ends}
 use Rattle.tidying_laws.specs.Void.{void}
 use Rattle.tidying_laws.specs.Laws.{t7}
-use Rattle.tidying_fitting.specs.Parts.{Ends, Row, Sound, Tells, SomePart, inside}
+use Rattle.tidying_fitting.specs.Parts.{Tells}
 use Rattle.tidying_fitting.specs.Words.{startOf}
 use Rattle.tidying_fitting.specs.Places.{endOf}
 use Rattle.tidying_fitting.specs.Marks.{without, markedEnd}
@@ -32,28 +32,24 @@ use Rattle.tidying_rewriting.specs.Frames.{Cut}
 use Rattle.tidying_rewriting.specs.Rows.{skeletons-count, skeletons-append, Closes, Closing, joined}
 use Rattle.tidying_rewriting.specs.Dropping.{dropping, Drop, drop-of, void-alternation, void-sequence}
 
-pub each-proper : (l : List Node) → All Sound l → All Proper l
-each-proper [] h = tt
-each-proper (r ∷ l) h = (h .0 .proper, each-proper l (h .1))
-
 -- A part inside a part that is placed: where its records end.
 module _ {table : List ℕ} {n part : ℕ} {before : List ℕ} {x : Node} {l m : List Token}
     (p : Placed table n part before x l m)
     (front : List Node) (q : Node) (more : List Node) (split : inner x ≡ front ++ (q ∷ more)) where
-  row : Row table (part + 1 - 1) (length (front ++ (q ∷ more))) before (front ++ (q ∷ more))
-  row = rw split at (inside (p .ends))
+  series : Series table (part + 1 - 1) (length (front ++ (q ∷ more))) before (front ++ (q ∷ more))
+  series = rw split at (inside (p .ends))
 
-  sound : All Sound (q ∷ more)
-  sound = all-right Sound front (q ∷ more) (row .sound)
+  proper : All Proper (q ∷ more)
+  proper = all-right Proper front (q ∷ more) (series .proper)
 
   pub inner-tokens : concatMap skeleton (inner x) ≡ concatMap skeleton front ++ (skeleton q ++ concatMap skeleton more)
   inner-tokens = ap (concatMap skeleton) split ∙ skeletons-append front (q ∷ more)
 
   pub front-count : length (concatMap skeleton front) ≡ countAll front
-  front-count = skeletons-count front (each-proper front (all-left Sound front (q ∷ more) (row .sound)))
+  front-count = skeletons-count front (all-left Proper front (q ∷ more) (series .proper))
 
   pub part-count : length (skeleton q) ≡ recordCount q
-  part-count = skeleton-count q (sound .0 .proper)
+  part-count = skeleton-count q (proper .0)
 
   -- Before it stand the tokens on the left and those of the parts in front.
   pub part-end : length l + length (concatMap skeleton front) + recordCount q + length (concatMap skeleton more) ≡ part
@@ -68,26 +64,10 @@ module _ {table : List ℕ} {n part : ℕ} {before : List ℕ} {x : Node} {l m :
 
   pub part-ends : Ends table (length l + length (concatMap skeleton front) + recordCount q)
       (before ++ concatMap records front) q
-  part-ends = record { stands = subst (λ (i : ℕ). Stands table i (first ++ records q)) number under; sound = sound .0 }
-    where
-      first : List ℕ
-      first = before ++ concatMap records front
-
-      words : before ++ concatMap records (front ++ (q ∷ more)) ≡ (first ++ records q) ++ concatMap records more
-      words =
-          ap (λ x. before ++ x) (records-append front (q ∷ more))
-          ∙ sym (append-assoc before (concatMap records front) (records q ++ concatMap records more))
-          ∙ sym (append-assoc first (records q) (concatMap records more))
-
-      proper : All Proper more
-      proper = each-proper more (sound .1)
-
-      number : part + 1 - 1 - countAll more ≡ length l + length (concatMap skeleton front) + recordCount q
-      number = omega (arith, part-end, skeletons-count more proper)
-
-      under : Stands table (part + 1 - 1 - countAll more) (first ++ records q)
-      under = stands-under (first ++ records q) (concatMap records more) (countAll more)
-          (rw words at (row .stands)) (long-all more proper)
+  part-ends =
+      let number : part + 1 - 1 - countAll more ≡ length l + length (concatMap skeleton front) + recordCount q
+      = omega (arith, part-end, skeletons-count more (proper .1)) in
+      rw number at (among-ends front q more series)
 
 -- The numbers of records at which the alternative that goes ends and starts, and how many alternatives there are.
 pub record DropAt (mark : Mark) (n part : ℕ) (x y : Node) (l : List Token) (end from items : ℕ) : Type 0 where
@@ -115,7 +95,7 @@ module _ (mark : Mark) {table : List ℕ} {n part : ℕ} {before : List ℕ} {x 
         arith,
         told,
         fit .placed .here,
-        skeleton-count x (fit .placed .ends .sound .proper),
+        skeleton-count x (fit .placed .ends .proper),
         front-count (fit .placed) (drop .at .front) (drop .at .part) (drop .at .more) (drop .split),
       )
 
@@ -147,7 +127,7 @@ module _ (mark : Mark) {table : List ℕ} {n part : ℕ} {before : List ℕ} {x 
         some = omega (arith, length-append (drop .at .front) (drop .at .part ∷ drop .at .more));
       }
 
--- Without it the others are left, and the row is closed over them.
+-- Without it the others are left, and the series is closed over them.
 each-without : (k : Kind) (a : List Node) (q : Node) (b : List Node) → All (Not k) (a ++ (q ∷ b)) → All (Not k) (a ++ b)
 each-without k a q b h = all-append (Not k) a b (all-left (Not k) a (q ∷ b) h) (all-right (Not k) a (q ∷ b) h .1)
 

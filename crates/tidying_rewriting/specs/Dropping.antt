@@ -18,14 +18,14 @@ use Rattle.tidying_fitting.specs.Marks.{marks, without, distinct-leftmost, poss
 use Rattle.tidying_fitting.specs.declared.Mark.{Mark}
 use Rattle.tidying_fitting.specs.declared.Mark.the-variants.{Equal, Void}
 use Rattle.tidying_shapes.specs.Skeleton.{token, rowToken}
-use Rattle.tidying_rewriting.specs.Rewriting.{Law, Narrower, ok-same, narrower-same, ok-some}
+use Rattle.tidying_rewriting.specs.Rewriting.{Rule, Narrower, ok-same, narrower-same, ok-some}
 use Rattle.tidying_rewriting.specs.Rows.{RowOf, row-of}
 
 -- The law that drops the leftmost alternative that passes a test.
 abbrev withoutMarked : Mark → List Node → Option Node
 withoutMarked mark l = Option·map (λ s. join alternation (without s)) (leftmost (marks mark) [] l)
 
-abbrev pub dropping : Mark → Law
+abbrev pub dropping : Mark → Rule
 dropping mark = onParts alternation (withoutMarked mark)
 
 -- T6 is that law, and so is T7 on an alternation.
@@ -45,13 +45,12 @@ possible-drops l =
     ∙ map-map (join alternation) without (leftmost (marks Void) [] l)
 
 pub t6-drops : Narrower t6 (dropping Equal)
-unfolding t6
 t6-drops =
     let f : List Node → Option Node = λ l. Option·map (join alternation) (distinct [] l) in
     narrower-same (λ x. two-same f (withoutMarked Equal) distinct-drops (parts alternation x))
 
 pub void-alternation : (x : Node) → (kindOf x ≡ 5 → ⊥) → Ok (λ y. dropping Void x ≡ some y) (t7 x)
-unfolding t7 parts
+unfolding parts
 void-alternation empty h = tt
 void-alternation (bset s) h = tt
 void-alternation (assert a) h = tt
@@ -66,7 +65,7 @@ void-alternation (many n e lazy r) h = tt
 
 -- T7 makes a sequence the empty set.
 pub void-sequence : (x : Node) → kindOf x ≡ 5 → Ok (λ y. y ≡ bset void) (t7 x)
-unfolding t7 parts
+unfolding parts
 void-sequence empty h = absurd (omega arith)
 void-sequence (bset s) h = absurd (omega arith)
 void-sequence (assert a) h = absurd (omega arith)
@@ -107,16 +106,16 @@ drop-of mark x y e = go (leftmost (marks mark) [] (inner x)) refl
     rest : Option Split → Option Node
     rest = Option·map (λ s. join alternation (without s))
 
-    row : RowOf alternation (withoutMarked mark) x y
-    row = ok-some (RowOf alternation (withoutMarked mark) x) e (row-of alternation (withoutMarked mark) x)
+    series : RowOf alternation (withoutMarked mark) x y
+    series = ok-some (RowOf alternation (withoutMarked mark) x) e (row-of alternation (withoutMarked mark) x)
 
     go : (o : Option Split) → leftmost (marks mark) [] (inner x) ≡ o → Drop mark x y
-    go none f = absurd (Option·none-ne-some y (sym (ap rest f) ∙ row .fits))
+    go none f = absurd (Option·none-ne-some y (sym (ap rest f) ∙ series .fits))
     go (some s) f = record {
       at = s;
       found = f;
       split = subst (λ (o : Option Split). Ok Parts o) f (leftmost-parts (marks mark) [] (inner x));
-      result = Option·some-injective _ _ (sym (ap rest f) ∙ row .fits);
-      says = row .says;
-      all = row .all;
+      result = Option·some-injective _ _ (sym (ap rest f) ∙ series .fits);
+      says = series .says;
+      all = series .all;
     }

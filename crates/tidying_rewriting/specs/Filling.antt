@@ -18,7 +18,7 @@ use Rattle.tidying_laws.specs.Choices.{any}
 use Rattle.tidying_laws.specs.Equal.{same-eq}
 use Rattle.tidying_laws.specs.Laws.{when, isEmpty, filled, t1}
 use Rattle.tidying_laws.specs.Kept.{ok-when}
-use Rattle.tidying_fitting.specs.Parts.{Last, some-last}
+use Rattle.table.specs.Roots.{Last, some-last}
 use Rattle.tidying_fitting.specs.Words.{empty-kind}
 use Rattle.tidying_shapes.specs.Skeleton.{Token, token, rowToken, skeletonIn, skeleton}
 use Rattle.tidying_shapes.specs.Tokens.{Says}
@@ -52,7 +52,7 @@ module _ {table : List ℕ} {n : ℕ} {before : List ℕ} {x : Node} {l m : List
   -- and then an empty item, which is one record, goes, and any other stays.
   module _ {end left kept : ℕ} (f : Filling table n end left kept before x l m) (h : 0 < left) where
     last : Last (f .rest)
-    last = some-last (f .rest) (omega (arith, f .walk .row .counted))
+    last = some-last (f .rest) (omega (arith, f .walk .series .counted))
 
     abbrev front : List Node
     front = last .front
@@ -122,7 +122,7 @@ module _ {table : List ℕ} {n : ℕ} {before : List ℕ} {x : Node} {l m : List
     pub item-few : {v : ℕ} → v ≡ getD table (recordWords * (end - 1) + 2) 0 → v ≤ end
     item-few r = let all = r ∙ last-word turn 2 (omega arith) in omega (arith, turn .few)
 
--- In the end the row is closed over the filled items.
+-- In the end the series is closed over the filled items.
 each-filled : (l : List Node) → All (Not sequence) l → All (Not sequence) (filled l)
 unfolding filled
 each-filled [] h = tt
@@ -137,13 +137,12 @@ filledRow l = when (any isEmpty l) (join sequence (filled l))
 
 module _ {table₀ : List ℕ} {n₀ part : ℕ} {before : List ℕ} {x y : Node} {l m : List Token}
     (fit : Fitting t1 table₀ n₀ part before x y l m) where
-  row : RowOf sequence filledRow x y
-  unfolding t1
-  row = ok-some (RowOf sequence filledRow x) (fit .fits) (row-of sequence filledRow x)
+  series : RowOf sequence filledRow x y
+  series = ok-some (RowOf sequence filledRow x) (fit .fits) (row-of sequence filledRow x)
 
   pub fill-result : join sequence (filled (inner x)) ≡ y
   fill-result = let P : Node → Type 0 = λ y. join sequence (filled (inner x)) ≡ y in
-      ok-some P (row .fits) (ok-when P (any isEmpty (inner x)) (join sequence (filled (inner x))) (λ t. refl))
+      ok-some P (series .fits) (ok-when P (any isEmpty (inner x)) (join sequence (filled (inner x))) (λ t. refl))
 
   pub filled-room : {table : List ℕ} {n end left kept : ℕ} → Filling table n end left kept before x l m
       → (n₀ ≤ part + n) × (part + n - n₀ < n) × (recordWords * n ≤ length table)
@@ -165,7 +164,7 @@ module _ {table₀ : List ℕ} {n₀ part : ℕ} {before : List ℕ} {x y : Node
   pub filled-closing : {table : List ℕ} {n end left kept : ℕ} → left ≤ 0 → Filling table n end left kept before x l m
       → Closing table n (part + n - n₀) kept sequence (filled (inner x)) l m
   filled-closing {table} {n} {end} {left} {kept} z f =
-      go (f .rest) (f .split) (omega (arith, f .walk .row .counted)) (f .walk .says)
+      go (f .rest) (f .split) (omega (arith, f .walk .series .counted)) (f .walk .says)
     where
       go : (rest : List Node) → inner x ≡ rest ++ f .more → length rest ≤ 0
           → Says table n (l ++ (concatMap skeleton rest ++ (concatMap skeleton (filled (f .more)) ++ (token x ∷ m))))
@@ -175,7 +174,7 @@ module _ {table₀ : List ℕ} {n₀ part : ℕ} {before : List ℕ} {x y : Node
           let some : List Token = concatMap skeleton (filled (inner x)) in
           let Said : List Node → Type 0 = λ ps. Says table n (l ++ (concatMap skeleton (filled ps) ++ (token x ∷ m))) in
           let said : Says table n (l ++ (some ++ (rowToken sequence (length (inner x)) ∷ m)))
-          = rw (← row .says) (subst Said (sym e) s) in
+          = rw (← series .says) (subst Said (sym e) s) in
           record {
             old = length (inner x);
             says = said;
@@ -188,7 +187,7 @@ module _ {table₀ : List ℕ} {n₀ part : ℕ} {before : List ℕ} {x y : Node
               length-append some (rowToken sequence (length (inner x)) ∷ m),
             );
             counted = f .counted ∙ ap (λ ps. length (filled ps)) (sym e);
-            apart = each-filled (inner x) (rw (row .all) (parts-flat sequence x (fit .placed .flat)));
+            apart = each-filled (inner x) (rw (series .all) (parts-flat sequence x (fit .placed .flat)));
           }
 
 -- What the loop keeps, whatever the part is.

@@ -14,7 +14,7 @@ use Rattle.tidying_shapes.specs.Edits.{Removed, Marked}
 use Rattle.tidying_shapes.specs.Told.{skeleton-count}
 use Rattle.tidying_rewriting.specs.Rewriting.{Placed, Fitting, SomeFitting, Rewrites, leafToken, Shrinks, ok-some}
 use Rattle.tidying_rewriting.specs.Rewriting.{within, own-word}
-use Rattle.tidying_rewriting.specs.Quantifiers.{unquantified, unnested, left-empty, left-part, Nested, left-outer}
+use Rattle.tidying_rewriting.specs.Quantifiers.{unquantified, unnested, left-empty, Inside, left-part, Nested, left-outer}
 
 module _ {table : List ℕ} {n part : ℕ} {before : List ℕ} {x : Node} {l m : List Token}
     (p : Placed table n part before x l m) where
@@ -23,10 +23,10 @@ module _ {table : List ℕ} {n part : ℕ} {before : List ℕ} {x : Node} {l m :
 
   pub inside-count : suc (length (concatMap skeleton (inner x))) ≡ recordCount x
   inside-count =
-      omega (arith, ap length (inner-skeleton x), length-append inside (token x ∷ []), skeleton-count x (p .ends .sound .proper))
+      omega (arith, ap length (inner-skeleton x), length-append inside (token x ∷ []), skeleton-count x (p .ends .proper))
 
   pub inside-here : length l + length (concatMap skeleton (inner x)) ≡ part
-  inside-here = omega (arith, inside-count, skeleton-count x (p .ends .sound .proper), p .here)
+  inside-here = omega (arith, inside-count, skeleton-count x (p .ends .proper), p .here)
 
   -- The word that says how many records it has, and that they are there.
   pub block : {w : ℕ} → w ≡ getD table (recordWords * (part + 1 - 1) + 2) 0
@@ -61,7 +61,7 @@ unfolding skeletonIn inner
 never e z s = record {
   by = λ before x y l m f.
       let least : getD (lastOf x) 0 0 ≡ 0 = sym (e ∙ own-word (f .placed) 8 (omega arith)) ∙ z in
-      rw (ok-some (λ y. y ≡ empty) (f .fits) (left-empty x least)) (s .by before x l m (f .placed));
+      rw (ok-some (λ y. getD (lastOf x) 0 0 ≡ 0 → y ≡ empty) (f .fits) (left-empty x) least) (s .by before x l m (f .placed));
 }
 
 pub once : {table table₁ : List ℕ} {n part w : ℕ} → w ≡ getD table (recordWords * (part + 1 - 1) + 8) 0 → (w ≡ 0 → ⊥)
@@ -69,7 +69,7 @@ pub once : {table table₁ : List ℕ} {n part w : ℕ} → w ≡ getD table (re
 once e z r = record {
   by = λ before x y l m f.
       let least : getD (lastOf x) 0 0 ≡ 0 → ⊥ = λ h. z (e ∙ own-word (f .placed) 8 (omega arith) ∙ h) in
-      rw (ok-some (λ y. concatMap skeleton (inner x) ≡ skeleton y) (f .fits) (left-part x least)) at (opened (f .placed) r);
+      rw (ok-some (Inside x) (f .fits) (left-part x) least) at (opened (f .placed) r);
 }
 
 -- The inner of two quantifiers has gone.

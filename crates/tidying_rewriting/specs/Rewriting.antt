@@ -7,18 +7,18 @@ use native.Mathlib.Omega.{arith}
 use lib.ListN.{length, replicate, getD, length-append}
 use Rattle.meaning.specs.Node.{Node}
 use Rattle.meaning.specs.Flat.{Flat}
-use Rattle.table.specs.Table.{recordWords, recordOf}
+use Rattle.table.specs.Table.{recordWords, recordOf, wordOf}
 use Rattle.table.specs.Laws.{inner, kindOf, operandOf, lastOf}
 use Rattle.table.specs.Roots.{root-word}
 use Rattle.tidying_laws.specs.Kept.{Ok}
-use Rattle.tidying_fitting.specs.Parts.{Ends}
+use Rattle.table.specs.Stands.{Ends}
 use Rattle.tidying_shapes.specs.Skeleton.{Token, skeleton}
 use Rattle.tidying_shapes.specs.Tokens.{Says}
 use Rattle.tidying_shapes.specs.Laws.{says-length}
 
--- A law: what it makes of a part that it fits.
-abbrev pub Law : Type 0
-Law = Node → Option Node
+-- A rule: what it makes of a part that it fits. A law is one, and so is what is carried out for it.
+abbrev pub Rule : Type 0
+Rule = Node → Option Node
 
 -- A flat part whose own record is record `part`: its records end with that one, and its tokens stand among others.
 pub record Placed (table : List ℕ) (n part : ℕ) (before : List ℕ) (x : Node) (l m : List Token) : Type 0 where
@@ -28,7 +28,7 @@ pub record Placed (table : List ℕ) (n part : ℕ) (before : List ℕ) (x : Nod
   pub flat : Flat x
 
 -- A law fits it, and there is room for the result.
-pub record Fitting (law : Law) (table : List ℕ) (n part : ℕ) (before : List ℕ) (x y : Node) (l m : List Token) : Type 0 where
+pub record Fitting (law : Rule) (table : List ℕ) (n part : ℕ) (before : List ℕ) (x y : Node) (l m : List Token) : Type 0 where
   pub placed : Placed table n part before x l m
   pub fits : law x ≡ some y
   pub room : recordWords * (length l + length (skeleton y) + length m) ≤ length table
@@ -41,7 +41,7 @@ pub record SomePlaced (table : List ℕ) (n part : ℕ) : Type 0 where
   pub right : List Token
   pub placed : Placed table n part before node left right
 
-pub record SomeFitting (law : Law) (table : List ℕ) (n part : ℕ) : Type 0 where
+pub record SomeFitting (law : Rule) (table : List ℕ) (n part : ℕ) : Type 0 where
   pub before : List ℕ
   pub node : Node
   pub result : Node
@@ -50,7 +50,7 @@ pub record SomeFitting (law : Law) (table : List ℕ) (n part : ℕ) : Type 0 wh
   pub fitting : Fitting law table n part before node result left right
 
 -- What is done, whatever the part is: the tokens of the law's result are said in place of its own, and n′ records are left.
-pub record Rewrites (law : Law) (table table′ : List ℕ) (n part n′ : ℕ) : Type 0 where
+pub record Rewrites (law : Rule) (table table′ : List ℕ) (n part n′ : ℕ) : Type 0 where
   pub by : (before : List ℕ) (x y : Node) (l m : List Token) → Fitting law table n part before x y l m
       → Says table′ n′ (l ++ (skeleton y ++ m))
 
@@ -63,21 +63,21 @@ pub record Shrinks (table table′ : List ℕ) (n part kind n′ : ℕ) : Type 0
       → Says table′ n′ (l ++ (leafToken kind ∷ m))
 
 -- A law that does no more than another: what it makes, the other makes too.
-pub record Narrower (law wide : Law) : Type 0 where
+pub record Narrower (law wide : Rule) : Type 0 where
   pub by : (x : Node) → Ok (λ y. wide x ≡ some y) (law x)
 
 pub ok-same : (o p : Option Node) → o ≡ p → Ok (λ y. p ≡ some y) o
 ok-same none p e = tt
 ok-same (some y) p e = sym e
 
-pub narrower-same : {law wide : Law} → ((x : Node) → law x ≡ wide x) → Narrower law wide
+pub narrower-same : {law wide : Rule} → ((x : Node) → law x ≡ wide x) → Narrower law wide
 narrower-same {law} {wide} e = record { by = λ x. ok-same (law x) (wide x) (e x) }
 
 -- What holds of a result, if there is one, holds of the one there is.
 pub ok-some : (P : Node → Type 0) {o : Option Node} {y : Node} → o ≡ some y → Ok P o → P y
 ok-some P e h = subst (λ (o : Option Node). Ok P o) e h
 
-module _ {law wide : Law} {table : List ℕ} {n part : ℕ} where
+module _ {law wide : Rule} {table : List ℕ} {n part : ℕ} where
   pub fitting-wide : {before : List ℕ} {x y : Node} {l m : List Token} → Ok (λ y. wide x ≡ some y) (law x)
       → Fitting law table n part before x y l m → Fitting wide table n part before x y l m
   fitting-wide {x = x} h f = record { placed = f .placed; fits = ok-some (λ y. wide x ≡ some y) (f .fits) h; room = f .room }
@@ -108,6 +108,6 @@ module _ {table : List ℕ} {n part : ℕ} {before : List ℕ} {x : Node} {l m :
   within = omega (arith, count, p .here, p .says .room)
 
   -- What the words of its own record are.
-  pub own-word : (j : ℕ) → j < recordWords → getD table (recordWords * (part + 1 - 1) + j) 0
+  pub own-word : (j : ℕ) → j < recordWords → wordOf table (part + 1) j
       ≡ getD (recordOf (kindOf x) (operandOf x) (length (inner x)) x (lastOf x)) j 0
-  own-word = root-word before x (p .ends .sound .proper) (p .ends .stands)
+  own-word = root-word (p .ends)

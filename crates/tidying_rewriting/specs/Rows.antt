@@ -1,4 +1,4 @@
--- A row of parts of a kind: its own token says how many there are. Without parts it is empty, and with one it is that part.
+-- A series of parts of a kind: its own token says how many there are. Without parts it is empty, and with one it is that part.
 use mathlib.Core.Path.{_≡_, refl, sym, _∙_}
 use mathlib.Core.Option.{Option, none, some}
 use mathlib.Core.List.{List, [], _∷_, _++_, append-assoc, append-nil}
@@ -29,7 +29,7 @@ skeletons-append [] m = refl
 skeletons-append (r ∷ l) m =
     rw (skeletons-append l m) (sym (append-assoc (skeleton r) (concatMap skeleton l) (concatMap skeleton m)))
 
--- A law on the parts of a kind fits only a row of them, and is told of the parts inside it.
+-- A law on the parts of a kind fits only a series of them, and is told of the parts inside it.
 pub record RowOf (k : Kind) (f : List Node → Option Node) (x y : Node) : Type 0 where
   pub says : token x ≡ rowToken k (length (inner x))
   pub fits : f (inner x) ≡ some y
@@ -57,7 +57,7 @@ row-of alternation f (alt r q) =
     let l : List Node = r ∷ parts alternation q in
     ok-two P f l (λ h. ok-each P (f l) (λ y e. record { says = refl; fits = e; all = refl }))
 
--- The tokens of a row over those of its parts, by how many parts there are.
+-- The tokens of a series over those of its parts, by how many parts there are.
 abbrev pub closed : Kind → ℕ → List Token → List Token
 closed k zero ts = leafToken 1 ∷ []
 closed k (suc zero) ts = ts
@@ -68,9 +68,9 @@ pub closed-join : (k : Kind) (l : List Node) → All (Not k) l
 unfolding skeletonIn inner
 closed-join k [] h = refl
 closed-join k (r ∷ []) h = append-nil (skeleton r)
-closed-join k (r ∷ q ∷ l) h = sym (pair-own k r (link k q l) ∙ rw (row-parts k (link k q l), parts-link k q l (h .1)))
+closed-join k (r ∷ q ∷ l) h = sym (pair-own k r (link k q l) ∙ rw (row-parts k (link k q l), parts-link k q l (h .1 .0) (h .1 .1)))
 
--- A row's own record, `root`, is set to how many parts are left.
+-- A series's own record, `root`, is set to how many parts are left.
 pub record Closes (table table′ : List ℕ) (n root kept n′ : ℕ) : Type 0 where
   pub by : (k : Kind) (old : ℕ) (l ts m : List Token) → length l + length ts ≡ root → (kept ≡ 0 → ts ≡ [])
       → Says table n (l ++ (ts ++ (rowToken k old ∷ m))) → Says table′ n′ (l ++ (closed k kept ts ++ m))
@@ -98,7 +98,7 @@ module _ {table table′ : List ℕ} {n root kept : ℕ} where
       more k ts (suc zero) z o = absurd (o refl)
       more k ts (suc (suc i)) z o = refl
 
--- Where parts are left that are not of the row's kind, they are joined.
+-- Where parts are left that are not of the series's kind, they are joined.
 pub record Closing (table : List ℕ) (n root kept : ℕ) (k : Kind) (parts : List Node) (l m : List Token) : Type 0 where
   pub old : ℕ
   pub says : Says table n (l ++ (concatMap skeleton parts ++ (rowToken k old ∷ m)))

@@ -1,4 +1,4 @@
--- The parts of a row are walked from the last one back, and what stands behind them is edited: those still to be walked stay.
+-- The parts of a series are walked from the last one back, and what stands behind them is edited: those still to be walked stay.
 use mathlib.Core.Path.{_≡_, sym, ap, subst, _∙_}
 use mathlib.Core.List.{List, [], _∷_, _++_, append-assoc, append-nil}
 use Prim.Native.Nat.{ℕ, _+_, _-_, _*_, _≤_, _<_}
@@ -6,10 +6,11 @@ use native.Mathlib.Omega.{arith}
 use lib.ListN.{length, getD, take, length-append}
 use Rattle.meaning.specs.Node.{Node}
 use Rattle.meaning.specs.Results.{concatMap}
-use Rattle.table.specs.Table.{recordWords, recordCount, recordOf, records}
+use Rattle.table.specs.Table.{recordWords, recordCount, recordOf, records, wordOf}
 use Rattle.table.specs.Laws.{inner, kindOf, operandOf, lastOf}
-use Rattle.table.specs.Roots.{root-word}
-use Rattle.tidying_fitting.specs.Parts.{Ends, Row, last-ends, shorter, inside, room}
+use Rattle.table.specs.Roots.{root-word, last-ends, shorter, inside}
+use Rattle.table.specs.Stands.{Ends, Series}
+use Rattle.tidying_fitting.specs.Parts.{room}
 use Rattle.tidying_shapes.specs.Skeleton.{Token, token, skeleton}
 use Rattle.tidying_shapes.specs.Tokens.{Says}
 use Rattle.tidying_shapes.specs.Laws.{says-length}
@@ -20,11 +21,11 @@ use Rattle.tidying_rewriting.specs.Rows.{skeletons-append}
 
 -- The walk has come to record number `end`, with `left` parts to go, behind which stand some tokens.
 pub record Walked (table : List ℕ) (n end left : ℕ) (before : List ℕ) (rest : List Node) (l ts : List Token) : Type 0 where
-  pub row : Row table end left before rest
+  pub series : Series table end left before rest
   pub low : length l + length (concatMap skeleton rest) ≡ end
   pub says : Says table n (l ++ (concatMap skeleton rest ++ ts))
 
--- It begins below the row's own record.
+-- It begins below the series's own record.
 pub walk-start : {table : List ℕ} {n part w : ℕ} {before : List ℕ} {x : Node} {l m : List Token}
     → Placed table n part before x l m → w ≡ getD table (recordWords * (part + 1 - 1) + 3) 0
     → Walked table n part w before (inner x) l (token x ∷ m)
@@ -32,7 +33,7 @@ walk-start {table} {n} {part} {w} {before} {x} p e =
     let all : length (inner x) ≡ w = sym (e ∙ own-word p 3 (omega arith)) in
     let under : part + 1 - 1 ≡ part = omega arith in
     record {
-      row = subst (λ (i : ℕ). Row table part i before (inner x)) all (rw under at (inside (p .ends)));
+      series = subst (λ (i : ℕ). Series table part i before (inner x)) all (rw under at (inside (p .ends)));
       low = inside-here p;
       says = own-said p;
     }
@@ -51,16 +52,16 @@ pub record Turned (table : List ℕ) (n end left : ℕ) (before : List ℕ) (fro
       → Says table′ n′ (l ++ (concatMap skeleton front ++ ts′))
       → Walked table′ n′ (end - recordCount part) (left - 1) before front l ts′
 
-row-kept : {table table′ : List ℕ} {end left : ℕ} {before : List ℕ} {rest : List Node} → Row table end left before rest
+row-kept : {table table′ : List ℕ} {end left : ℕ} {before : List ℕ} {rest : List Node} → Series table end left before rest
     → take (recordWords * end) table′ ≡ take (recordWords * end) table → recordWords * end ≤ length table′
-    → Row table′ end left before rest
+    → Series table′ end left before rest
 row-kept r e h =
-    record { stands = record { below = e ∙ r .stands .below; room = h }; counted = r .counted; sound = r .sound }
+    record { stands = record { below = e ∙ r .stands .below; room = h }; counted = r .counted; proper = r .proper }
 
 module _ {table : List ℕ} {n end left : ℕ} {before : List ℕ} (front : List Node) (q : Node) {l ts : List Token}
     (w : Walked table n end left before (front ++ (q ∷ [])) l ts) where
   ends : Ends table end (before ++ concatMap records front) q
-  ends = last-ends front q (w .row)
+  ends = last-ends front q (w .series)
 
   split : concatMap skeleton (front ++ (q ∷ [])) ≡ concatMap skeleton front ++ skeleton q
   split = skeletons-append front (q ∷ []) ∙ ap (λ x. concatMap skeleton front ++ x) (append-nil (skeleton q))
@@ -71,7 +72,7 @@ module _ {table : List ℕ} {n end left : ℕ} {before : List ℕ} (front : List
     w .low,
     ap length split,
     length-append (concatMap skeleton front) (skeleton q),
-    skeleton-count q (ends .sound .proper),
+    skeleton-count q (ends .proper),
   )
 
   tokens : concatMap skeleton (front ++ (q ∷ [])) ++ ts ≡ concatMap skeleton front ++ (skeleton q ++ ts)
@@ -92,7 +93,7 @@ module _ {table : List ℕ} {n end left : ℕ} {before : List ℕ} (front : List
       w .low,
     );
     next = λ ts′ e s. record {
-      row = row-kept (shorter front q (w .row)) e (omega (
+      series = row-kept (shorter front q (w .series)) e (omega (
         arith,
         s .room,
         says-length s,
@@ -108,6 +109,5 @@ module _ {table : List ℕ} {n end left : ℕ} {before : List ℕ} (front : List
 -- The words of that part's own record.
 pub last-word : {table : List ℕ} {n end left : ℕ} {before : List ℕ} {front : List Node} {q : Node} {l ts : List Token}
     → Turned table n end left before front q l ts → (j : ℕ) → j < recordWords
-    → getD table (recordWords * (end - 1) + j) 0 ≡ getD (recordOf (kindOf q) (operandOf q) (length (inner q)) q (lastOf q)) j 0
-last-word {before = before} {front = front} {q = q} t =
-    root-word (before ++ concatMap records front) q (t .ends .sound .proper) (t .ends .stands)
+    → wordOf table end j ≡ getD (recordOf (kindOf q) (operandOf q) (length (inner q)) q (lastOf q)) j 0
+last-word t = root-word (t .ends)

@@ -45,7 +45,7 @@ fn cut(table: &mut [u32], n: usize, at: usize, count: usize) -> usize
     n - count
 }
 
-// A row's own record, `root`, where `kept` parts are left: none is empty, and one is that part. Asked: the record is there.
+// A series's own record, `root`, where `kept` parts are left: none is empty, and one is that part. Asked: the record is there.
 pub fn close(table: &mut [u32], n: usize, root: usize, kept: u32) -> usize
     requires { ⌜ (root < n) × (recordWords * n ≤ length (now table)) ⌝ }
     ensures { λ r. ⌜ Closes (now (table .entry)) (now (table .exit)) n root kept r ⌝ }

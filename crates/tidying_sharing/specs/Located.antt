@@ -10,12 +10,14 @@ use Rattle.meaning.specs.Results.{concatMap}
 use Rattle.table.specs.Table.{recordCount, records}
 use Rattle.table.specs.Laws.{inner, countAll, count-append, inner-count}
 use Rattle.tidying_laws.specs.Laws.{t8}
-use Rattle.tidying_fitting.specs.Parts.{Ends, Row, SomePart, Tells, inside, room}
+use Rattle.table.specs.Stands.{Ends, Series, SomePart}
+use Rattle.table.specs.Roots.{inside, among-ends}
+use Rattle.tidying_fitting.specs.Parts.{Tells, room}
 use Rattle.tidying_fitting.specs.Words.{startOf}
 use Rattle.tidying_fitting.specs.Places.{endOf}
 use Rattle.tidying_fitting.specs.Marks.{markedEnd}
 use Rattle.tidying_fitting.specs.declared.Mark.the-variants.{Alike}
-use Rattle.tidying_sharing.specs.Runs.{part-ends, Behind, SomeBehind, RunEnds}
+use Rattle.tidying_sharing.specs.Runs.{Behind, SomeBehind, RunEnds}
 use Rattle.tidying_sharing.specs.Shares.{Shares, shares-of, leads}
 
 -- T8 fits the part whose own record is record `part`.
@@ -41,11 +43,11 @@ module _ {table : List ℕ} {part : ℕ} {before : List ℕ} {x y : Node} (s : S
   abbrev k : Shares x y
   k = shares-of x y (s .fits)
 
-  row : Row table part (length (inner x)) before (k .front ++ (k .first ∷ k .second ∷ k .more))
-  row =
+  series : Series table part (length (inner x)) before (k .front ++ (k .first ∷ k .second ∷ k .more))
+  series =
       let less : part + 1 - 1 ≡ part = omega arith in
-      subst (λ (l : List Node). Row table part (length (inner x)) before l) (k .split)
-      (subst (λ (i : ℕ). Row table i (length (inner x)) before (inner x)) less (inside (s .ends)))
+      subst (λ (l : List Node). Series table part (length (inner x)) before l) (k .split)
+      (subst (λ (i : ℕ). Series table i (length (inner x)) before (inner x)) less (inside (s .ends)))
 
   -- The records of the part are those of its alternatives, and its own.
   all : recordCount x ≡ countAll (k .front) + (recordCount (k .first) + (recordCount (k .second) + countAll (k .more))) + 1
@@ -55,12 +57,12 @@ module _ {table : List ℕ} {part : ℕ} {before : List ℕ} {x y : Node} (s : S
   under = before ++ concatMap records (k .front ++ (k .first ∷ []))
 
   second-ends : Ends table (part - countAll (k .more)) under (k .second)
-  second-ends = part-ends (k .front ++ (k .first ∷ [])) (k .second) (k .more)
-      (subst (λ (l : List Node). Row table part (length (inner x)) before l)
-      (sym (append-assoc (k .front) (k .first ∷ []) (k .second ∷ k .more))) row)
+  second-ends = among-ends (k .front ++ (k .first ∷ [])) (k .second) (k .more)
+      (subst (λ (l : List Node). Series table part (length (inner x)) before l)
+      (sym (append-assoc (k .front) (k .first ∷ []) (k .second ∷ k .more))) series)
 
   first-ends : Ends table (part - countAll (k .second ∷ k .more)) (before ++ concatMap records (k .front)) (k .first)
-  first-ends = part-ends (k .front) (k .first) (k .second ∷ k .more) row
+  first-ends = among-ends (k .front) (k .first) (k .second ∷ k .more) series
 
   module _ {second : ℕ} (t : Tells second table (part + 1) (markedEnd Alike (part + 1))) where
     second-at : part - countAll (k .more) ≡ second
@@ -92,7 +94,7 @@ module _ {table : List ℕ} {part : ℕ} {before : List ℕ} {x y : Node} (s : S
 
       the-behind : Behind table part first before (k .front) (k .first) (k .second ∷ k .more)
       the-behind = record {
-        row = record { stands = row .stands; counted = refl; sound = row .sound };
+        series = record { stands = series .stands; counted = refl; proper = series .proper };
         here = omega (arith, all, first-at, room (s .ends) .few);
       }
 

@@ -43,11 +43,11 @@ abbrev sharedRow : List Node → Option Node
 sharedRow l = Option·map (join alternation) (share l)
 
 pub shares-of : (x y : Node) → t8 x ≡ some y → Shares x y
-unfolding t8 share leftmost
+unfolding share leftmost
 shares-of x y e = go (inner x) refl
   where
-    row : RowOf alternation sharedRow x y
-    row = ok-some (RowOf alternation sharedRow x) e (row-of alternation sharedRow x)
+    series : RowOf alternation sharedRow x y
+    series = ok-some (RowOf alternation sharedRow x) e (row-of alternation sharedRow x)
 
     at-split : (p : Node) (l : List Node) (at : Split) (m : List Node) → inner x ≡ p ∷ l → join alternation m ≡ y
         → leftmost follows (p ∷ []) l ≡ some at → SharedAt (p ∷ l) m (behind p at) → Shares x y
@@ -63,14 +63,14 @@ shares-of x y e = go (inner x) refl
       begins = k .begins;
       result = ap (join alternation) (sym (k .result)) ∙ made;
       several = k .many;
-      says = row .says;
-      all = row .all;
+      says = series .says;
+      all = series .all;
     }
 
     go : (ps : List Node) → inner x ≡ ps → Shares x y
-    go [] is = absurd (Option·none-ne-some y (sym (ap sharedRow is) ∙ row .fits))
+    go [] is = absurd (Option·none-ne-some y (sym (ap sharedRow is) ∙ series .fits))
     go (p ∷ l) is =
-        let (m, shares, made) = map-eq-some-iff (join alternation) (share (p ∷ l)) .0 (sym (ap sharedRow is) ∙ row .fits) in
+        let (m, shares, made) = map-eq-some-iff (join alternation) (share (p ∷ l)) .0 (sym (ap sharedRow is) ∙ series .fits) in
         let (at, found) = is-some (leftmost follows (p ∷ []) l) (sym (share-leftmost [] p l) ∙ ap isSome shares) in
         at-split p l at m is made found (share-at [] p l m at found shares)
 
@@ -128,18 +128,18 @@ wrapped s [] h = absurd (omega arith)
 wrapped s (p ∷ []) h = absurd (omega arith)
 wrapped s (p ∷ q ∷ l) h =
     let r : Node = glues q l in
-    let (row, width) = glues-row q l in
+    let (series, width) = glues-row q l in
     let one : length (parts sequence (glue alternation p r)) ≡ 1 = glue-width (some sequence) alternation p r in
     let own : List Token = rowToken alternation (widths (p ∷ q ∷ l)) ∷ [] in
     let inside : skeletonIn (some sequence) (glue alternation p r) ≡ concatMap trimmed (p ∷ q ∷ l) ++ own
     = glue-in (some sequence) alternation p r
-    ∙ ap₂ (λ ts n. trimmed p ++ (ts ++ (rowToken alternation (length (parts alternation p) + n) ∷ []))) row width
+    ∙ ap₂ (λ ts n. trimmed p ++ (ts ++ (rowToken alternation (length (parts alternation p) + n) ∷ []))) series width
     ∙ sym (append-assoc (trimmed p) (concatMap trimmed (q ∷ l)) own) in
     lead-tokens s (glue alternation p r)
     ∙ ap₂ (λ ts n. setToken s ∷ (ts ++ (rowToken sequence (suc n) ∷ []))) inside one
     ∙ ap (λ ts. setToken s ∷ ts) (append-assoc (concatMap trimmed (p ∷ q ∷ l)) own (rowToken sequence 2 ∷ []))
 
--- A row's own token stands behind its parts, unless there is one part only.
+-- A series's own token stands behind its parts, unless there is one part only.
 abbrev pub ending : ℕ → List Token → List Token
 ending zero m = m
 ending (suc zero) m = m
@@ -155,10 +155,10 @@ module _ {x y : Node} (k : Shares x y) (apart : All (Not alternation) (inner x))
   abbrev wrap : Node
   wrap = seq (bset (k .set)) (glued (rests k))
 
-  abbrev row : List Node
-  row = k .front ++ (wrap ∷ after k)
+  abbrev series : List Node
+  series = k .front ++ (wrap ∷ after k)
 
-  row-apart : All (Not alternation) row
+  row-apart : All (Not alternation) series
   row-apart =
       let whole = rw (split-run k) at apart in
       let behind = all-right (Not alternation) (k .front) (leads k ++ after k) whole in
@@ -166,11 +166,11 @@ module _ {x y : Node} (k : Shares x y) (apart : All (Not alternation) (inner x))
       (all-left (Not alternation) (k .front) (leads k ++ after k) whole)
       (tt, all-right (Not alternation) (leads k) (after k) behind)
 
-  joined-row : join alternation row ≡ y
+  joined-row : join alternation series ≡ y
   joined-row =
       ap (λ m. join alternation (k .front ++ (seq (bset (k .set)) (glued m) ∷ after k))) (sym (the-run k .trimmed)) ∙ k .result
 
-  row-length : length row ≡ length (k .front) + suc (length (after k))
+  row-length : length series ≡ length (k .front) + suc (length (after k))
   row-length = length-append (k .front) (wrap ∷ after k)
 
   pub result-tokens : (kept : ℕ) (m : List Token) → kept ≡ length (k .front) + suc (length (after k))
@@ -181,12 +181,12 @@ module _ {x y : Node} (k : Shares x y) (apart : All (Not alternation) (inner x))
       let some : List Token = concatMap trimmed (rests k) in
       let behind : List Token = concatMap skeleton (after k) in
       let rows : List Token = rowToken alternation (widths (rests k)) ∷ rowToken sequence 2 ∷ [] in
-      let tokens : concatMap skeleton row ≡ front ++ ((setToken (k .set) ∷ (some ++ rows)) ++ behind)
+      let tokens : concatMap skeleton series ≡ front ++ ((setToken (k .set) ∷ (some ++ rows)) ++ behind)
       = skeletons-append (k .front) (wrap ∷ after k)
       ∙ ap (λ ts. front ++ (ts ++ behind)) (wrapped (k .set) (rests k) (two-rests k)) in
       ap (λ z. skeleton z ++ m) (sym joined-row)
-      ∙ ap (λ ts. ts ++ m) (sym (closed-join alternation row row-apart))
-      ∙ closed-ending (length row) (concatMap skeleton row) m (omega (arith, length-append (k .front) (wrap ∷ after k)))
+      ∙ ap (λ ts. ts ++ m) (sym (closed-join alternation series row-apart))
+      ∙ closed-ending (length series) (concatMap skeleton series) m (omega (arith, length-append (k .front) (wrap ∷ after k)))
       ∙ ap₂ (λ ts n. ts ++ ending n m) tokens (row-length ∙ sym e)
       ∙ regroup front some rows behind (ending kept m)
     where

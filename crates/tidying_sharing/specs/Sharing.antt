@@ -4,27 +4,27 @@ use mathlib.Core.List.{List, [], _∷_, _++_, append-assoc}
 use Prim.Native.Nat.{ℕ, suc, _+_, _-_, _*_, _≤_, _<_}
 use native.Mathlib.Omega.{arith}
 use lib.ListN.{length, getD, take, drop, length-append}
-use Rattle.meaning.specs.Node.{Node}
+use Rattle.meaning.specs.Node.{Node, Proper}
 use Rattle.meaning.specs.Flat.{Kind.sequence, Kind.alternation, Not}
 use Rattle.meaning.specs.Results.{concatMap}
 use Rattle.table.specs.Table.{recordWords}
 use Rattle.meaning.specs.All.{All, all-left, all-right}
-use Rattle.table.specs.Laws.{inner, parts-flat, countAll, count-append, inner-count}
+use Rattle.table.specs.Laws.{inner, inner-proper, parts-flat, countAll, count-append, inner-count}
 use Rattle.tidying_laws.specs.Laws.{t8}
 use Rattle.tidying_fitting.specs.Marks.{alike}
-use Rattle.tidying_fitting.specs.Parts.{Sound, Row, inside, room, sound-inner}
+use Rattle.table.specs.Stands.{Series}
+use Rattle.table.specs.Roots.{inside, front-series}
+use Rattle.tidying_fitting.specs.Parts.{room}
 use Rattle.tidying_shapes.specs.Skeleton.{Token, token, rowToken, skeletonIn, skeleton}
 use Rattle.tidying_shapes.specs.Tokens.{Says}
 use Rattle.tidying_shapes.specs.Laws.{says-length, says-at}
 use Rattle.tidying_shapes.specs.Told.{skeleton-count}
 use Rattle.tidying_rewriting.specs.Rewriting.{Fitting, SomeFitting, Rewrites, own-word, count}
 use Rattle.tidying_rewriting.specs.Own.{own-said, inside-here}
-use Rattle.tidying_rewriting.specs.Dropped.{each-proper}
 use Rattle.tidying_rewriting.specs.Rows.{skeletons-count, skeletons-append, Closes}
 use Rattle.tidying_sharing.specs.Leads.{Lead, Lead.single, Lead.leading, opening}
 use Rattle.tidying_sharing.specs.Trims.{trimmed, lead-tokens}
 use Rattle.tidying_sharing.specs.Wraps.{setToken, Wraps}
-use Rattle.tidying_sharing.specs.Runs.{row-front}
 use Rattle.tidying_sharing.specs.Shortening.{wordLimit, widths, Running, SomeRunning, Shortens}
 use Rattle.tidying_sharing.specs.Shares.{Shares, shares-of, leads, rests, after, the-run, two-leads, split-run}
 use Rattle.tidying_sharing.specs.Shares.{ending, closed-ending, result-tokens}
@@ -60,20 +60,20 @@ module _ {table : List ℕ} {n part : ℕ} {before : List ℕ} {x y : Node} {l m
   abbrev behind : List Token
   behind = concatMap skeleton (after k)
 
-  sounds : All Sound (k .front ++ (leads k ++ after k))
-  sounds = rw (split-run k) at (sound-inner x (fit .placed .ends .sound))
+  propers : All Proper (k .front ++ (leads k ++ after k))
+  propers = rw (split-run k) at (inner-proper x (fit .placed .ends .proper))
 
   front-count : length front ≡ countAll (k .front)
-  front-count = skeletons-count (k .front) (each-proper (k .front) (all-left Sound (k .front) (leads k ++ after k) sounds))
+  front-count = skeletons-count (k .front) (all-left Proper (k .front) (leads k ++ after k) propers)
 
-  behind-sounds : All Sound (leads k ++ after k)
-  behind-sounds = all-right Sound (k .front) (leads k ++ after k) sounds
+  behind-propers : All Proper (leads k ++ after k)
+  behind-propers = all-right Proper (k .front) (leads k ++ after k) propers
 
   whole-count : length whole ≡ countAll (leads k)
-  whole-count = skeletons-count (leads k) (each-proper (leads k) (all-left Sound (leads k) (after k) behind-sounds))
+  whole-count = skeletons-count (leads k) (all-left Proper (leads k) (after k) behind-propers)
 
   behind-count : length behind ≡ countAll (after k)
-  behind-count = skeletons-count (after k) (each-proper (after k) (all-right Sound (leads k) (after k) behind-sounds))
+  behind-count = skeletons-count (after k) (all-right Proper (leads k) (after k) behind-propers)
 
   tokens : concatMap skeleton (inner x) ≡ front ++ (whole ++ behind)
   tokens = ap (concatMap skeleton) (split-run k) ∙ skeletons-append (k .front) (leads k ++ after k)
@@ -100,24 +100,24 @@ module _ {table : List ℕ} {n part : ℕ} {before : List ℕ} {x y : Node} {l m
     starts : length l + length front ≡ from
     starts =
         let told = at .start before x y fit-sharing in
-        omega (arith, front-count, fit .placed .here, skeleton-count x (fit .placed .ends .sound .proper))
+        omega (arith, front-count, fit .placed .here, skeleton-count x (fit .placed .ends .proper))
 
     stops : from + length whole ≡ stop
     stops = let told = at .end before x y fit-sharing in omega (arith, whole-count)
 
-    row : Row table stop (length (k .front ++ leads k)) before (k .front ++ leads k)
-    row =
+    series : Series table stop (length (k .front ++ leads k)) before (k .front ++ leads k)
+    series =
         let under : part + 1 - 1 - countAll (after k) ≡ stop = omega (arith, starts, stops, all, behind-count) in
         let first : List Node = k .front ++ leads k in
         let parts : inner x ≡ first ++ after k = split-run k ∙ sym (append-assoc (k .front) (leads k) (after k)) in
         let items : ℕ = length (inner x) in
-        subst (λ (i : ℕ). Row table i (length first) before first) under (row-front {items = items} first (after k)
-        (subst (λ (ps : List Node). Row table (part + 1 - 1) items before ps) parts (inside (fit .placed .ends))))
+        subst (λ (i : ℕ). Series table i (length first) before first) under (front-series {items = items} first (after k)
+        (subst (λ (ps : List Node). Series table (part + 1 - 1) items before ps) parts (inside (fit .placed .ends))))
 
     the-running : Running table n from stop before (k .set) (k .front) (leads k) l (behind ++ (token x ∷ m))
     the-running = record {
       walk = record {
-        row = row;
+        series = series;
         low = omega (arith, starts, stops, ap length (skeletons-append (k .front) (leads k)), length-append front whole);
         says = rw (skeletons-append (k .front) (leads k), append-assoc) said;
       };

@@ -9,7 +9,9 @@ use Rattle.meaning.specs.Flat.{Kind.alternation, parts}
 use Rattle.meaning.specs.Results.{concatMap}
 use Rattle.table.specs.Table.{recordCount, records}
 use Rattle.meaning.specs.All.{All, all-left, all-right}
-use Rattle.tidying_fitting.specs.Parts.{SomePart, Tells, Last, some-last, length-parts}
+use Rattle.table.specs.Stands.{SomePart}
+use Rattle.table.specs.Roots.{Last, some-last}
+use Rattle.tidying_fitting.specs.Parts.{Tells, length-parts}
 use Rattle.tidying_fitting.specs.Words.{startOf}
 use Rattle.tidying_shapes.specs.Skeleton.{Token, skeleton}
 use Rattle.tidying_shapes.specs.Tokens.{Says}
@@ -132,7 +134,7 @@ module _ {table : List ℕ} {n from end gone width : ℕ} {before s : List ℕ} 
           lead = lead;
           says = rw append-assoc (turn .says);
           start = low ∙ sym (start-of t);
-          stop = omega (arith, low, turn .few, skeleton-count item (turn .ends .sound .proper));
+          stop = omega (arith, low, turn .few, skeleton-count item (turn .ends .proper));
         }
 
     pub item-trimming : {at : ℕ} → Tells at table end (startOf end) → SomeTrimmingAt table n at end
@@ -153,7 +155,7 @@ module _ {table : List ℕ} {n from end gone width : ℕ} {before s : List ℕ} 
           split = k .split ∙ ap (λ x. x ++ k .done) (last .split) ∙ append-assoc (last .front) (item ∷ []) (k .done);
           running = record {
             walk = rw whole (record {
-              row = record { stands = next .row .stands; counted = refl; sound = next .row .sound };
+              series = record { stands = next .series .stands; counted = refl; proper = next .series .proper };
               low = next .low;
               says = next .says;
             });

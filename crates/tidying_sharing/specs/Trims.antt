@@ -62,7 +62,7 @@ data Left : Node → Type 0 where
       → skeletonIn (some sequence) r ≡ trimmed r → (front : List Token) (last : Token) → trimmed r ≡ front ++ (last ∷ [])
       → (last .kind ≡ 6 → ⊥) → Left r
 
--- A row in a row of the other kind: its parts and its own token.
+-- A series in a series of the other kind: its parts and its own token.
 row-own : (k : Kind) (r q : Node) → skeleton (pair k r q)
     ≡ skeletonIn (some k) (pair k r q) ++ (rowToken k (suc (length (parts k q))) ∷ [])
 row-own k r q =
@@ -204,7 +204,7 @@ module _ {table table₁ table₂ : List ℕ} {n records w : ℕ} (z : records �
   trims-other h f k c g = longer z (λ s r m t.
       let left = other-left t e h f k c g (left-of r) in (says-same refl (omega arith) (left .0), left .1))
 
--- A pattern has a token, and a row of them as many as there are or more.
+-- A pattern has a token, and a series of them as many as there are or more.
 some-tokens : (r : Node) → 1 ≤ length (skeleton r)
 some-tokens r = omega (arith, ap length (inner-skeleton r), length-append (concatMap skeleton (inner r)) (token r ∷ []))
 

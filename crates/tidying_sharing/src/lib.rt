@@ -90,7 +90,7 @@ fn trim_at(table: &mut [u32], n: usize, at: usize, end: usize) -> Trimmed
     }
 }
 
-// Where those parts end that follow the one that ends at `first` and begin as it does. Asked: the parts of a row end at `part`,
+// Where those parts end that follow the one that ends at `first` and begin as it does. Asked: the parts of a series end at `part`,
 // and one of them at `first`.
 fn run_end(table: &[u32], part: usize, first: usize) -> usize
     requires { ⌜ SomeBehind (now table) part first ⌝ }

@@ -1,54 +1,12 @@
-use native.Mathlib.Omega.{arith}
-use Prim.Native.Nat.{ℕ, _+_, _-_, _*_, _≤_, _<_}
 use Rattle.tidying_fitting.proofs.Told.{asked, last-told}
 use Rattle.tidying_fitting.proofs.last_words.Statement.{statement}
 use Rattle.tidying_fitting.proofs.last_words.Tie as tie
-use Rattle.tidying_fitting.proofs.last_words.Reads as reads
-use Rattle.tidying_fitting.proofs.last_words.Lts as lts
-use Rattle.table.proofs.word.Reads as word-reads
 
-word-requires : tie.Need-word-requires
-word-requires c κs = omega (arith, asked ((c .before) .pre))
-
-word-requires-2 : tie.Need-word-requires-2
-word-requires-2 c κs = omega (arith, asked ((c .before .before) .pre))
-
-word-requires-3 : tie.Need-word-requires-3
-word-requires-3 c κs = omega (arith, asked ((c .before .before .before) .pre))
-
-word-requires-4 : tie.Need-word-requires-4
-word-requires-4 c κs = omega (arith, asked ((c .before .before .before .before) .pre))
-
-word-requires-5 : tie.Need-word-requires-5
-word-requires-5 c κs = omega (arith, asked ((c .before .before .before .before .before) .pre))
-
-word-requires-6 : tie.Need-word-requires-6
-word-requires-6 c κs = omega (arith, asked ((c .before .before .before .before .before .before) .pre))
-
-word-requires-7 : tie.Need-word-requires-7
-word-requires-7 c κs = omega (arith, asked ((c .before .before .before .before .before .before .before) .pre))
-
-word-requires-8 : tie.Need-word-requires-8
-word-requires-8 c κs = omega (arith, asked ((c .before .before .before .before .before .before .before .before) .pre))
+last-words-requires : tie.Need-last-words-requires
+last-words-requires c κs = asked (c .before .pre)
 
 returns : tie.Need-returns
-returns c =
-    last-told ((c .before .before .before .before .before .before .before .word) .ensures)
-    ((c .before .before .before .before .before .before .word2) .ensures)
-    ((c .before .before .before .before .before .word3) .ensures)
-    ((c .before .before .before .before .word4) .ensures) ((c .before .before .before .word5) .ensures)
-    ((c .before .before .word6) .ensures) ((c .before .word7) .ensures) ((c .word8) .ensures)
+returns c = last-told (c .last-words .ensures)
 
 pub last-words-spec : {M : Type 1} → statement M
-last-words-spec =
-    tie.close
-    (tie.spec
-    word-requires
-    word-requires-2
-    word-requires-3
-    word-requires-4
-    word-requires-5
-    word-requires-6
-    word-requires-7
-    word-requires-8
-    returns)
+last-words-spec = tie.close (tie.spec last-words-requires returns)

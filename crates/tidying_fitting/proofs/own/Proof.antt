@@ -2,7 +2,7 @@
 use Rattle.tidying_fitting.proofs.Told.{asked, own-told}
 use Rattle.tidying_fitting.proofs.own.Statement.{statement}
 use Rattle.tidying_fitting.proofs.own.Tie as tie
-use Prim.Native.Nat.{ℕ, _+_, _-_, _*_, _≤_, _<_}
+use Prim.Native.Nat.{_-_}
 use native.Mathlib.Omega.{arith}
 
 word-requires : tie.Need-word-requires

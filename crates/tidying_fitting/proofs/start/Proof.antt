@@ -1,14 +1,10 @@
-use mathlib.Core.Path.{_≡_, refl, sym, ap, _∙_}
+use mathlib.Core.Path.{refl}
 use Rattle.tidying_fitting.proofs.Told.{few-told}
-use native.Mathlib.Omega.{arith}
-use Prim.Native.Nat.{ℕ, _+_, _-_, _*_, _≤_, _<_}
+use Prim.Native.Nat.{_-_}
 use Rattle.tidying_fitting.proofs.Told.{start-told}
 use borrow.Author.Needs.{needs}
 use Rattle.tidying_fitting.proofs.start.Statement.{statement}
 use Rattle.tidying_fitting.proofs.start.Tie as tie
-use Rattle.tidying_fitting.proofs.start.Reads as reads
-use Rattle.tidying_fitting.proofs.start.Lts as lts
-use Rattle.tidying_fitting.proofs.own.Reads as own-reads
 
 own-requires : tie.Need-own-requires
 own-requires c κs = search needs

@@ -1,4 +1,4 @@
--- Where the alternative stands is what `leftmost` and `start` tell: it is cut out, and the row is closed over the others.
+-- Where the alternative stands is what `leftmost` and `start` tell: it is cut out, and the series is closed over the others.
 use borrow.Author.Needs.{needs}
 use native.Mathlib.Omega.{arith}
 use Rattle.tidying_rewriting.specs.Rewriting.{within}

@@ -42,7 +42,7 @@ there : (c : tie.In-loop Inv-loop μ-loop) → let at = c .before .loop in
     (0 < at .end) × (at .end ≤ at .count) × (recordWords * at .count ≤ length (at .table))
 there c = item-there (one-filling (start (c .before) .pre) (c .before .loop .inv .0)) (going c)
 
--- After the last turn the row's own record is there.
+-- After the last turn the series's own record is there.
 room : (c : tie.After-loop Inv-loop μ-loop) → let at = c .before .loop in let args = start (c .before) .args in
     (args .n ≤ args .part + at .count) × (args .part + at .count - args .n < at .count)
     × (recordWords * at .count ≤ length (at .table))

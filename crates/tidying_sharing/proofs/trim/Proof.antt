@@ -111,14 +111,14 @@ same-length-4 c = search needs
 returns-4 : tie.Need-returns-4
 returns-4 c =
     let removed = c .before .before in
-    let row = removed .before .before .before .before in
-    let inner = row .before .before in
+    let series = removed .before .before .before .before in
+    let inner = series .before .before in
     let kind = inner .before in
     let test = kind .before .before in
     let items = test .before in
     let more = items .before .before in
     trims-other (more .if1 .left) (items .word .ensures) (test .if2 .left) (kind .word2 .ensures) (inner .if3 .left)
-    (row .remove4 .ensures) (removed .remove5 .ensures)
+    (series .remove4 .ensures) (removed .remove5 .ensures)
 
 pub trim-spec : {M : Type 1} → statement M
 trim-spec =

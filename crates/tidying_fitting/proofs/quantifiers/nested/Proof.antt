@@ -1,16 +1,12 @@
 use borrow.Author.Tests.{not-true, not-false}
-use mathlib.Core.Path.{_≡_, refl, sym, _∙_}
+use mathlib.Core.Path.{sym, _∙_}
 use borrow.Author.Needs.{needs}
 use native.Mathlib.Omega.{arith}
-use Prim.Native.Nat.{ℕ, _+_, _-_, _*_, _≤_, _<_}
+use Prim.Native.Nat.{_-_}
 use Rattle.tidying_fitting.proofs.Told.{asked, quantified-ranged, part-asked, on-quantifier, off-ranged}
 use Rattle.tidying_fitting.specs.Words.{nestedIn}
 use Rattle.tidying_fitting.proofs.quantifiers.nested.Statement.{statement}
 use Rattle.tidying_fitting.proofs.quantifiers.nested.Tie as tie
-use Rattle.tidying_fitting.proofs.quantifiers.nested.Reads as reads
-use Rattle.tidying_fitting.proofs.quantifiers.nested.Lts as lts
-use Rattle.tidying_fitting.proofs.own.Reads as own-reads
-use Rattle.tidying_fitting.proofs.quantifiers.ranges.Reads as ranges-reads
 
 own-requires : tie.Need-own-requires
 own-requires c κs = search needs

@@ -1,28 +1,25 @@
-use native.Mathlib.Omega.{arith}
-use Prim.Native.Nat.{ℕ, _+_, _-_, _*_, _≤_, _<_}
+use Prim.Native.Nat.{_-_}
 use borrow.Author.Tests.{eq-eqb, ne-eqb, le-leb, lt-leb}
+use Rattle.tidying_laws.specs.Laws.{t2}
 use Rattle.tidying_fitting.specs.Fitting.{fits}
 use Rattle.tidying_fitting.proofs.Told.{by-record}
 use Rattle.tidying_fitting.specs.Words.{onceOrNever, t2-words}
 use borrow.Author.Needs.{needs}
 use Rattle.tidying_fitting.proofs.quantifiers.once_or_never.Statement.{statement}
 use Rattle.tidying_fitting.proofs.quantifiers.once_or_never.Tie as tie
-use Rattle.tidying_fitting.proofs.quantifiers.once_or_never.Reads as reads
-use Rattle.tidying_fitting.proofs.quantifiers.once_or_never.Lts as lts
-use Rattle.tidying_fitting.proofs.own.Reads as own-reads
 
 own-requires : tie.Need-own-requires
 own-requires c κs = search needs
 
 returns : tie.Need-returns
-returns c = by-record onceOrNever (fits 2) t2-words ((c .before .before .own) .ensures) (rw (ne-eqb _ _ ((c .if1) .taken)))
+returns c = by-record onceOrNever (fits t2) t2-words ((c .before .before .own) .ensures) (rw (ne-eqb _ _ ((c .if1) .taken)))
 
 returns-2 : tie.Need-returns-2
-returns-2 c = by-record onceOrNever (fits 2) t2-words ((c .before .before .before .before .own) .ensures)
+returns-2 c = by-record onceOrNever (fits t2) t2-words ((c .before .before .before .before .own) .ensures)
     (rw (eq-eqb _ _ ((c .before .before .if1) .left), ne-eqb _ _ ((c .if2) .taken)))
 
 returns-3 : tie.Need-returns-3
-returns-3 c = by-record onceOrNever (fits 2) t2-words ((c .before .before .before .before .before .before .own) .ensures)
+returns-3 c = by-record onceOrNever (fits t2) t2-words ((c .before .before .before .before .before .before .own) .ensures)
     (rw (
       eq-eqb _ _ ((c .before .before .before .before .if1) .left),
       eq-eqb _ _ ((c .before .before .if2) .left),
@@ -31,7 +28,7 @@ returns-3 c = by-record onceOrNever (fits 2) t2-words ((c .before .before .befor
     ))
 
 returns-4 : tie.Need-returns-4
-returns-4 c = by-record onceOrNever (fits 2) t2-words ((c .before .before .before .before .before .before .before .own)
+returns-4 c = by-record onceOrNever (fits t2) t2-words ((c .before .before .before .before .before .before .before .own)
     .ensures) (rw (
       eq-eqb _ _ ((c .before .before .before .before .before .if1) .left),
       eq-eqb _ _

@@ -1,14 +1,11 @@
-use mathlib.Core.Path.{_≡_, refl, sym, _∙_}
+use mathlib.Core.Path.{refl}
 use native.Mathlib.Omega.{arith}
-use Prim.Native.Nat.{ℕ, _+_, _-_, _*_, _≤_, _<_}
-use lib.Dec.{eqb, leb}
+use Prim.Native.Nat.{_-_}
+use lib.Dec.{eqb}
 use Rattle.tidying_fitting.proofs.Told.{asked, quantified-kind, part-asked, on-quantifier, off-kind}
 use borrow.Author.Needs.{needs}
 use Rattle.tidying_fitting.proofs.quantifiers.over.Statement.{statement}
 use Rattle.tidying_fitting.proofs.quantifiers.over.Tie as tie
-use Rattle.tidying_fitting.proofs.quantifiers.over.Reads as reads
-use Rattle.tidying_fitting.proofs.quantifiers.over.Lts as lts
-use Rattle.tidying_fitting.proofs.own.Reads as own-reads
 
 own-requires : tie.Need-own-requires
 own-requires c κs = search needs

@@ -1,11 +1,7 @@
-use native.Mathlib.Omega.{arith}
-use Prim.Native.Nat.{ℕ, _+_, _-_, _*_, _≤_, _<_}
-use borrow.Author.Tests.{eq-eqb, ne-eqb, le-leb, lt-leb}
-use borrow.Author.Needs.{needs}
+use Prim.Native.Nat.{_-_}
+use borrow.Author.Tests.{eq-eqb, ne-eqb}
 use Rattle.tidying_fitting.proofs.quantifiers.ranges.Statement.{statement}
 use Rattle.tidying_fitting.proofs.quantifiers.ranges.Tie as tie
-use Rattle.tidying_fitting.proofs.quantifiers.ranges.Reads as reads
-use Rattle.tidying_fitting.proofs.quantifiers.ranges.Lts as lts
 
 returns : tie.Need-returns
 returns c = rw (ne-eqb _ _ ((c .if1) .taken))

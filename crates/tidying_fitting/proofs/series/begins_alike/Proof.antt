@@ -2,12 +2,6 @@ use Rattle.tidying_fitting.proofs.Passed.{first-asked, first-differs, s
 use borrow.Author.Needs.{needs}
 use Rattle.tidying_fitting.proofs.series.begins_alike.Statement.{statement}
 use Rattle.tidying_fitting.proofs.series.begins_alike.Tie as tie
-use Rattle.tidying_fitting.proofs.series.begins_alike.Reads as reads
-use Rattle.tidying_fitting.proofs.series.begins_alike.Lts as lts
-use Rattle.tidying_fitting.proofs.last_words.Reads as last-words-reads
-use Rattle.tidying_fitting.proofs.own.Reads as own-reads
-use Rattle.tidying_fitting.proofs.series.first_item.Reads as first-item-reads
-use Rattle.sets.proofs.same.Reads as same-reads
 
 first-item-requires : tie.Need-first-item-requires
 first-item-requires c κs = search needs

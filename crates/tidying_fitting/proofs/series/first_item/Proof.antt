@@ -1,17 +1,13 @@
 use borrow.Author.Needs.{needs}
 use native.Mathlib.Omega.{arith}
-use Prim.Native.Nat.{ℕ, _+_, _-_, _*_, _≤_, _<_}
+use Prim.Native.Nat.{ℕ, _-_}
 use mathlib.Core.List.{List}
 use Rattle.meaning.specs.Node.{Node}
-use Rattle.tidying_fitting.specs.Parts.{Ends}
+use Rattle.table.specs.Stands.{Ends}
 use Rattle.tidying_fitting.proofs.Passed.{Passing, turn-part, first-alone, pass-first, pass-turn, pass-more, pass-last}
 use Rattle.tidying_fitting.proofs.Told.{asked}
 use Rattle.tidying_fitting.proofs.series.first_item.Statement.{statement}
 use Rattle.tidying_fitting.proofs.series.first_item.Tie as tie
-use Rattle.tidying_fitting.proofs.series.first_item.Reads as reads
-use Rattle.tidying_fitting.proofs.series.first_item.Lts as lts
-use Rattle.tidying_fitting.proofs.own.Reads as own-reads
-use Rattle.tidying_fitting.proofs.start.Reads as start-reads
 
 abbrev Inv-loop : tie.InvT-loop
 Inv-loop table top end₀ left₀ end left = (before : List ℕ) (r : Node) → Ends table top before r → Passing table top end left

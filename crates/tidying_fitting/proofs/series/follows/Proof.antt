@@ -1,10 +1,6 @@
 use Rattle.tidying_fitting.proofs.Walked.{alone-told, last-asked, before-asked, follows-told}
 use Rattle.tidying_fitting.proofs.series.follows.Statement.{statement}
 use Rattle.tidying_fitting.proofs.series.follows.Tie as tie
-use Rattle.tidying_fitting.proofs.series.follows.Reads as reads
-use Rattle.tidying_fitting.proofs.series.follows.Lts as lts
-use Rattle.tidying_fitting.proofs.series.begins_alike.Reads as begins-alike-reads
-use Rattle.tidying_fitting.proofs.start.Reads as start-reads
 
 returns : tie.Need-returns
 returns c = alone-told ((c .if1) .taken)

@@ -2,12 +2,6 @@ use Rattle.tidying_fitting.proofs.Passed.{other-kind, void-told}
 use borrow.Author.Needs.{needs}
 use Rattle.tidying_fitting.proofs.series.is_void.Statement.{statement}
 use Rattle.tidying_fitting.proofs.series.is_void.Tie as tie
-use Rattle.tidying_fitting.proofs.series.is_void.Reads as reads
-use Rattle.tidying_fitting.proofs.series.is_void.Lts as lts
-use Rattle.tidying_fitting.proofs.last_words.Reads as last-words-reads
-use Rattle.tidying_fitting.proofs.own.Reads as own-reads
-use Rattle.sets.proofs.none.Reads as none-reads
-use Rattle.sets.proofs.same.Reads as same-reads
 
 own-requires : tie.Need-own-requires
 own-requires c κs = search needs

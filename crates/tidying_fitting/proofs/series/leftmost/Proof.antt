@@ -1,14 +1,14 @@
 -- The walk over the parts goes on as the loop does.
-use mathlib.Core.Path.{_≡_, sym, ap, _∙_}
+use mathlib.Core.Path.{_≡_}
 use mathlib.Core.Bool.{cond}
 use mathlib.Core.Logic.{⊎-elim}
 use mathlib.Core.List.{List}
-use Prim.Native.Nat.{ℕ, _<_}
+use Prim.Native.Nat.{ℕ}
 use native.Mathlib.Omega.{arith}
 use borrow.Author.Needs.{needs}
 use Rattle.meaning.specs.Node.{Node}
 use Rattle.table.specs.Laws.{inner}
-use Rattle.tidying_fitting.specs.Parts.{Ends}
+use Rattle.table.specs.Stands.{Ends}
 use Rattle.tidying_fitting.specs.Places.{Walk}
 use Rattle.tidying_fitting.specs.Marks.{marks}
 use Rattle.tidying_fitting.proofs.Told.{asked}

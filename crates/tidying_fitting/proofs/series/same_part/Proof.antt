@@ -1,13 +1,9 @@
 use native.Mathlib.Omega.{arith}
-use Prim.Native.Nat.{ℕ, _+_, _-_, _*_, _≤_, _<_}
+use Prim.Native.Nat.{_-_}
 use Rattle.tidying_fitting.proofs.Blocks.{starts, counts-differ, words-compare}
 use borrow.Author.Needs.{needs}
 use Rattle.tidying_fitting.proofs.series.same_part.Statement.{statement}
 use Rattle.tidying_fitting.proofs.series.same_part.Tie as tie
-use Rattle.tidying_fitting.proofs.series.same_part.Reads as reads
-use Rattle.tidying_fitting.proofs.series.same_part.Lts as lts
-use Rattle.tidying_fitting.proofs.series.same_words.Reads as same-words-reads
-use Rattle.tidying_fitting.proofs.start.Reads as start-reads
 
 start-requires : tie.Need-start-requires
 start-requires c κs = search needs

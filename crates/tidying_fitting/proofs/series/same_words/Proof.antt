@@ -1,14 +1,12 @@
 use borrow.Author.Needs.{needs}
-use mathlib.Core.Path.{_≡_, refl, sym, ap, _∙_}
+use mathlib.Core.Path.{_≡_}
 use native.Mathlib.Omega.{arith}
-use Prim.Native.Nat.{ℕ, _+_, _-_, _*_, _≤_, _<_}
-use mathlib.Core.Bool.{true, false, false≢true, true≢false}
-use lib.ListN.{length, getD}
+use Prim.Native.Nat.{ℕ, _+_, _-_, _≤_, _<_}
+use mathlib.Core.Bool.{false≢true, true≢false}
+use lib.ListN.{getD}
 use borrow.Author.Count.{below-none, below-more}
 use Rattle.tidying_fitting.proofs.series.same_words.Statement.{statement}
 use Rattle.tidying_fitting.proofs.series.same_words.Tie as tie
-use Rattle.tidying_fitting.proofs.series.same_words.Reads as reads
-use Rattle.tidying_fitting.proofs.series.same_words.Lts as lts
 
 abbrev Inv-loop : tie.InvT-loop
 Inv-loop table one other words k₀ k = (k ≤ words) × ((i : ℕ) → i < k → getD table (one + i) 0 ≡ getD table (other + i) 0)
