@@ -15,7 +15,7 @@ use Rattle.meaning.specs.All.{All, all-append}
 use Rattle.machine.specs.Rows.{Key, at}
 use Rattle.machine.specs.Steps.{Move, Move.win, Move.lose, Move.eat, Move.on, Move.both, Thread, thread, Machine}
 use Rattle.machine.specs.Steps.{Machine.machine}
-use Rattle.machine.specs.Steps.{sameKey, among, exec, step, steps, begun, Done, count}
+use Rattle.machine.specs.Steps.{sameKey, among, exec, step, steps, begun, Done, seen, count}
 
 -- How many places of the first n rows are not in a list.
 abbrev missing : Key → List Key → ℕ
@@ -88,12 +88,13 @@ module _ (n size start cap : ℕ) where
   abbrev Below : Thread → Type 0
   Below t = t .key .row < n
 
-  -- At most 2n moves were made at each position, and the position lies in the text.
+  -- At most 2n moves were made at each position, at this one as many as keys were executed, and the position lies in the text.
   pub record Paid (i : ℕ) (s : List Key) (c : ℕ) : Type 0 where
     pub k : ℕ
     pub here : i ≡ start + k
     pub within : i ≤ size
     pub spent : c + free n s ≤ suc k * (n + n)
+    pub once : length s + free n s ≤ n + n
 
   -- So it is for a machine; its threads stand at rows below n, and are not too many.
   pub record Bounded (i : ℕ) (a q : List Thread) (s : List Key) (c : ℕ) : Type 0 where
@@ -122,6 +123,10 @@ module _ (n size start cap : ℕ) where
       let h : p .k ≤ size - start = omega (arith, p .here, p .within) in
       omega (arith, p .spent, mul-le-mul-right (n + n) (suc-le-suc h))
 
+  -- At this position it has executed at most 2n keys.
+  pub executes-few : (M : Machine) → Bound M → length (seen M) ≤ n + n
+  executes-few (machine i a q s b c) g = omega (arith, g .paid .once)
+
   -- What is left to do.
   abbrev pub left : Machine → ℕ
   left (machine i a q s b c) = (size - i) * suc (n + n + (n + n) + (n + n)) + (free n s + free n s + length a)
@@ -130,7 +135,7 @@ module _ (n size start cap : ℕ) where
   pub begins : (ts : List Thread) → All Below ts → length ts ≤ cap → n + n ≤ cap → start ≤ size → Bound (begun start ts)
   begins ts h l wide h′ =
       let e : free n [] ≡ n + n = free-all n in
-      let paid : Paid start [] 0 = record { k = 0; here = omega arith; within = h′; spent = omega arith } in
+      let paid : Paid start [] 0 = record { k = 0; here = omega arith; within = h′; spent = omega arith; once = omega arith } in
       record { paid = paid; now = h; soon = tt; wide = wide; space = omega arith; wait = omega arith }
 
   executes : (i : ℕ) (m : Move) (ρ : Regs) (a q : List Thread) (s : List Key) (b : Option Regs) (c : ℕ) → Inside n size i m
@@ -191,8 +196,8 @@ module _ (n size start cap : ℕ) where
             k = suc (p .k);
             here = omega (arith, p .here);
             within = g .soon .0 .1;
-            spent = omega
-                (arith, p .spent, free-all n, suc-mul (suc (p .k)) (n + n));
+            spent = omega (arith, p .spent, free-all n, suc-mul (suc (p .k)) (n + n));
+            once = omega (arith, free-all n);
           };
           now = lower i (t ∷ q) (g .soon);
           soon = tt;
@@ -221,8 +226,8 @@ module _ (n size start cap : ℕ) where
               k = p .k;
               here = p .here;
               within = p .within;
-              spent = omega
-                  (arith, p .spent);
+              spent = omega (arith, p .spent);
+              once = omega (arith, p .once);
             } in
             let g′ : Bounded i a q (t .key ∷ s) (suc c)
             = record {

@@ -20,10 +20,10 @@ use Rattle.meaning.specs.All.{All}
 use Rattle.machine.specs.Rows.{Row, Row.accept, Row.consume, Row.jump, Row.fork, Row.opens, Row.closes, Row.reset}
 use Rattle.machine.specs.Rows.{Row.begin, Row.end, Row.assertion}
 use Rattle.machine.specs.Rows.{Program, rowCount, rowAt, Key, at}
-use Rattle.machine.specs.Steps.{Move.lose, Move.on, act, moveOf, Thread, Machine, steps, begun, Done, count, enough}
+use Rattle.machine.specs.Steps.{Move.lose, Move.on, act, moveOf, Thread, Machine, steps, begun, Done, seen, count, enough}
 use Rattle.machine.specs.Steps.{firstThread, run}
 use Rattle.machine.specs.Words.{rowPasses, mayBeLast, eachPasses, lastPasses, rowsPass}
-use Rattle.machine.specs.Bound.{Inside, Bound, Room, room, counts, begins, left-begun, after, stays, ends}
+use Rattle.machine.specs.Bound.{Inside, Bound, Room, room, counts, executes-few, begins, left-begun, after, stays, ends}
 
 module _ (p : Program) (pass : rowsPass p ≡ true) where
   abbrev n : ℕ
@@ -82,7 +82,11 @@ module _ (p : Program) (pass : rowsPass p ≡ true) where
       pub roomy : (m : ℕ) → Room n (size w) i (n + n) (after-steps m)
       roomy m = room n (size w) i (n + n) (after-steps m) (bound m)
 
-      -- At most 2n rows are executed for each position from the start to the end, both included.
+      -- At each position at most 2n rows are executed,
+      pub at-position : (m : ℕ) → length (seen (after-steps m)) ≤ 2 * n
+      at-position m = omega (arith, executes-few n (size w) i (n + n) (after-steps m) (bound m))
+
+      -- and so at most 2n for each position from the start to the end, both included.
       pub frugal : (m : ℕ) → count (after-steps m) ≤ 2 * n * (size w - i + 1)
       frugal m =
           let e : suc (size w - i) * (n + n) ≡ 2 * n * (size w - i + 1) = mul-comm (suc (size w - i)) (n + n) ∙ same in
@@ -107,7 +111,11 @@ module _ (p : Program) (pass : rowsPass p ≡ true) where
       unfolding run
       run-done = halts i (firstThread p row ∷ []) one (omega arith) within (enough w n i) (omega arith)
 
-      -- It executes at most 2n rows for each position from the start to the end, both included.
+      -- At each position that it comes to it executes at most 2n rows,
+      pub run-at-position : (m : ℕ) → length (seen (steps (moveOf w (p .rows)) m (begun i (firstThread p row ∷ [])))) ≤ 2 * n
+      run-at-position = at-position i (firstThread p row ∷ []) one (omega arith) within
+
+      -- and so at most 2n for each position from the start to the end, both included.
       pub run-frugal : count (run w p i row) ≤ 2 * n * (size w - i + 1)
       unfolding run
       run-frugal = frugal i (firstThread p row ∷ []) one (omega arith) within (enough w n i)

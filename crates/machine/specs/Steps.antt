@@ -89,7 +89,10 @@ Done (machine i [] [] s b c) = Unit {0}
 Done (machine i [] (t ∷ q) s b c) = ⊥
 Done (machine i (t ∷ a) q s b c) = ⊥
 
--- The result, and the count of rows executed.
+-- The keys executed at its position; the result; and the count of rows executed.
+abbrev pub seen : Machine → List Key
+seen (machine i a q s b c) = s
+
 abbrev pub best : Machine → Option Regs
 best (machine i a q s b c) = b
 
