@@ -28,7 +28,7 @@ use Rattle.tidying_rewriting.specs.Rewriting.{some-wide}
 use Rattle.tidying_rewriting.specs.Rewriting.{within, own-word}
 use Rattle.tidying_rewriting.specs.Own.{own-said, inside-here}
 use Rattle.tidying_rewriting.specs.Frames.{Cut}
-use Rattle.tidying_rewriting.specs.Rows.{skeletons-count, skeletons-append, Closes, Closing, joined}
+use Rattle.tidying_rewriting.specs.Rows.{skeletons-count, skeletons-append, Rejoins, Rejoining, joined}
 use Rattle.tidying_rewriting.specs.Dropping.{dropping, Drop, drop-of, void-alternation, void-sequence}
 
 pub each-proper : (l : List Node) → Each Sound l → Each Proper l
@@ -36,10 +36,10 @@ each-proper [] h = tt
 each-proper (r ∷ l) h = (h .0 .proper, each-proper l (h .1))
 
 -- A part inside a part that is placed: where its records end.
-module _ {table : List ℕ} {n part : ℕ} {before : List ℕ} {x : Node} {l m : List Token}
-    (p : Placed table n part before x l m)
+module _ {table : List ℕ} {n top : ℕ} {before : List ℕ} {x : Node} {l m : List Token}
+    (p : Placed table n top before x l m)
     (front : List Node) (q : Node) (more : List Node) (split : inner x ≡ front ++ (q ∷ more)) where
-  row : Row table (part + 1 - 1) (length (front ++ (q ∷ more))) before (front ++ (q ∷ more))
+  row : Row table (top - 1) (length (front ++ (q ∷ more))) before (front ++ (q ∷ more))
   row = rw split at (inside (p .ends))
 
   sound : Each Sound (q ∷ more)
@@ -55,7 +55,7 @@ module _ {table : List ℕ} {n part : ℕ} {before : List ℕ} {x : Node} {l m :
   part-count = skeleton-count q (sound .0 .proper)
 
   -- Before it stand the tokens on the left and those of the parts in front.
-  pub part-end : length l + length (concatMap skeleton front) + recordCount q + length (concatMap skeleton more) ≡ part
+  pub part-end : length l + length (concatMap skeleton front) + recordCount q + length (concatMap skeleton more) ≡ top - 1
   part-end = omega (
     arith,
     inside-here p,
@@ -81,35 +81,35 @@ module _ {table : List ℕ} {n part : ℕ} {before : List ℕ} {x : Node} {l m :
       proper : Each Proper more
       proper = each-proper more (sound .1)
 
-      number : part + 1 - 1 - countAll more ≡ length l + length (concatMap skeleton front) + recordCount q
+      number : top - 1 - countAll more ≡ length l + length (concatMap skeleton front) + recordCount q
       number = omega (arith, part-end, skeletons-count more proper)
 
-      under : Stands table (part + 1 - 1 - countAll more) (first ++ records q)
+      under : Stands table (top - 1 - countAll more) (first ++ records q)
       under = stands-under (first ++ records q) (concatMap records more) (countAll more)
           (rw words at (row .stands)) (long-all more proper)
 
 -- The numbers of records at which the alternative that goes ends and starts, and how many alternatives there are.
-pub record DropAt (mark : Mark) (n part : ℕ) (x y : Node) (l : List Token) (end from items : ℕ) : Type 0 where
+pub record DropAt (mark : Mark) (n top : ℕ) (x y : Node) (l : List Token) (end from items : ℕ) : Type 0 where
   pub drop : Drop mark x y
   pub start : from ≡ length l + length (concatMap skeleton (drop .at .front))
   pub gone : end - from ≡ recordCount (drop .at .part)
   pub order : from ≤ end
-  pub few : end ≤ part
-  pub inside : part < n
+  pub few : end < top
+  pub inside : top ≤ n
   pub all : items ≡ length (inner x)
   pub some : 1 ≤ items
 
-module _ (mark : Mark) {table : List ℕ} {n part : ℕ} {before : List ℕ} {x y : Node} {l m : List Token}
-    (fit : Fitting (dropping mark) table n part before x y l m) where
+module _ (mark : Mark) {table : List ℕ} {n top : ℕ} {before : List ℕ} {x y : Node} {l m : List Token}
+    (fit : Fitting (dropping mark) table n top before x y l m) where
   drop : Drop mark x y
   drop = drop-of mark x y (fit .fits)
 
   abbrev ended : ℕ
   ended = length l + length (concatMap skeleton (drop .at .front)) + recordCount (drop .at .part)
 
-  drop-end : {end : ℕ} → Tells end table (part + 1) (markedEnd mark (part + 1)) → end ≡ ended
+  drop-end : {end : ℕ} → Tells end table top (markedEnd mark top) → end ≡ ended
   drop-end t =
-      let told = t .by before x (fit .placed .ends) ∙ ap (endOf (part + 1 - recordCount x)) (drop .found) in
+      let told = t .by before x (fit .placed .ends) ∙ ap (endOf (top - recordCount x)) (drop .found) in
       omega (
         arith,
         told,
@@ -118,41 +118,42 @@ module _ (mark : Mark) {table : List ℕ} {n part : ℕ} {before : List ℕ} {x 
         front-count (fit .placed) (drop .at .front) (drop .at .part) (drop .at .more) (drop .split),
       )
 
-  drop-ends : {end : ℕ} → Tells end table (part + 1) (markedEnd mark (part + 1))
+  drop-ends : {end : ℕ} → Tells end table top (markedEnd mark top)
       → Ends table end (before ++ concatMap records (drop .at .front)) (drop .at .part)
   drop-ends t =
       rw (drop-end t) (part-ends (fit .placed) (drop .at .front) (drop .at .part) (drop .at .more) (drop .split))
 
-  pub drop-there : {end : ℕ} → Tells end table (part + 1) (markedEnd mark (part + 1)) → SomePart table end
+  pub drop-there : {end : ℕ} → Tells end table top (markedEnd mark top) → SomePart table end
   drop-there t =
       record { before = before ++ concatMap records (drop .at .front); part = drop .at .part; ends = drop-ends t }
 
-  pub drop-at : {end from items : ℕ} → Tells end table (part + 1) (markedEnd mark (part + 1))
-      → Tells from table end (startOf end) → items ≡ getD table (recordWords * (part + 1 - 1) + 3) 0
-      → DropAt mark n part x y l end from items
+  pub drop-at : {end from items : ℕ} → Tells end table top (markedEnd mark top)
+      → Tells from table end (startOf end) → items ≡ getD table (recordWords * (top - 1) + 3) 0
+      → DropAt mark n top x y l end from items
   drop-at {end} {from} {items} t s e =
       let started : from ≡ end - recordCount (drop .at .part) = s .by _ _ (drop-ends t) in
       let all : items ≡ length (inner x) = e ∙ own-word (fit .placed) 3 (omega arith) in
       let stop : end ≡ ended = drop-end t in
       let one = ap length (drop .split) in
+      let low = within (fit .placed) in
       record {
         drop = drop;
         start = omega arith;
         gone = omega arith;
         order = omega arith;
         few = omega (arith, part-end (fit .placed) (drop .at .front) (drop .at .part) (drop .at .more) (drop .split));
-        inside = omega (arith, within (fit .placed));
+        inside = omega arith;
         all = all;
         some = omega (arith, length-append (drop .at .front) (drop .at .part ∷ drop .at .more));
       }
 
--- Without it the others are left, and the row is closed over them.
+-- Without it the others are left, and the row is rejoined over them.
 each-without : (k : Kind) (a : List Node) (q : Node) (b : List Node) → Each (Not k) (a ++ (q ∷ b)) → Each (Not k) (a ++ b)
 each-without k a q b h = each-append (Not k) a b (each-left (Not k) a (q ∷ b) h) (each-right (Not k) a (q ∷ b) h .1)
 
-module _ {mark : Mark} {table table′ : List ℕ} {n part n′ end from items : ℕ} {before : List ℕ} {x y : Node}
-    {l m : List Token} (fit : Fitting (dropping mark) table n part before x y l m)
-    (d : DropAt mark n part x y l end from items) (cut : Cut table table′ n from (end - from) n′) where
+module _ {mark : Mark} {table table′ : List ℕ} {n top n′ end from items : ℕ} {before : List ℕ} {x y : Node}
+    {l m : List Token} (fit : Fitting (dropping mark) table n top before x y l m)
+    (d : DropAt mark n top x y l end from items) (cut : Cut table table′ n from (end - from) n′) where
   abbrev front : List Node
   front = d .drop .at .front
 
@@ -171,7 +172,7 @@ module _ {mark : Mark} {table table′ : List ℕ} {n part n′ end from items :
   abbrev b : List Token
   b = concatMap skeleton more
 
-  numbers : (length q ≡ recordCount gone) × (length l + length a + length q + length b ≡ part)
+  numbers : (length q ≡ recordCount gone) × (length l + length a + length q + length b ≡ top - 1)
   numbers =
       let count = part-count (fit .placed) front gone more (d .drop .split) in
       (count, omega (arith, part-end (fit .placed) front gone more (d .drop .split)))
@@ -192,8 +193,8 @@ module _ {mark : Mark} {table table′ : List ℕ} {n part n′ end from items :
       = ap (λ ts. ts ++ rest) (skeletons-append front more) ∙ append-assoc a b rest in
       rw (← d .drop .says, left, ← append-assoc) short
 
-  pub drop-closing : Closing table′ n′ (part + n′ - n) (items - 1) alternation (without (d .drop .at)) l m
-  drop-closing = record {
+  pub drop-rejoining : Rejoining table′ n′ (top + n′ - n) (items - 1) alternation (without (d .drop .at)) l m
+  drop-rejoining = record {
     old = length (inner x);
     says = left-said;
     here = omega
@@ -204,19 +205,19 @@ module _ {mark : Mark} {table table′ : List ℕ} {n part n′ end from items :
         (rw (← d .drop .split, d .drop .all) (parts-flat alternation x (fit .placed .flat)));
   }
 
-pub drops : (mark : Mark) {table table₁ table₂ : List ℕ} {n part n₁ n₂ end from items : ℕ}
-    → Tells end table (part + 1) (markedEnd mark (part + 1)) → Tells from table end (startOf end)
-    → items ≡ getD table (recordWords * (part + 1 - 1) + 3) 0 → Cut table table₁ n from (end - from) n₁
-    → Closes table₁ table₂ n₁ (part + n₁ - n) (items - 1) n₂ → Rewrites (dropping mark) table table₂ n part n₂
+pub drops : (mark : Mark) {table table₁ table₂ : List ℕ} {n top n₁ n₂ end from items : ℕ}
+    → Tells end table top (markedEnd mark top) → Tells from table end (startOf end)
+    → items ≡ getD table (recordWords * (top - 1) + 3) 0 → Cut table table₁ n from (end - from) n₁
+    → Rejoins table₁ table₂ n₁ (top + n₁ - n) (items - 1) n₂ → Rewrites (dropping mark) table table₂ n top n₂
 drops mark t s e cut c = record {
   by = λ before x y l m fit.
       let d = drop-at mark fit t s e in
-      rw (d .drop .result) at (joined c (drop-closing fit d cut));
+      rw (d .drop .result) at (joined c (drop-rejoining fit d cut));
 }
 
 -- T7, by the kind of the part: a sequence becomes the empty set.
-pub voids : {table table₁ : List ℕ} {n part n′ w : ℕ} → w ≡ getD table (recordWords * (part + 1 - 1) + 0) 0 → w ≡ 5
-    → Shrinks table table₁ n part 2 n′ → Rewrites t7 table table₁ n part n′
+pub voids : {table table₁ : List ℕ} {n top n′ w : ℕ} → w ≡ getD table (recordWords * (top - 1) + 0) 0 → w ≡ 5
+    → Shrinks table table₁ n top 2 n′ → Rewrites t7 table table₁ n top n′
 unfolding skeletonIn inner
 voids e z s = record {
   by = λ before x y l m f.
@@ -225,15 +226,15 @@ voids e z s = record {
 }
 
 -- And of an alternation the leftmost empty set goes.
-module _ {table : List ℕ} {n part w : ℕ} (e : w ≡ getD table (recordWords * (part + 1 - 1) + 0) 0) (z : w ≡ 5 → ⊥) where
-  other : {before : List ℕ} {x : Node} {l m : List Token} → Placed table n part before x l m → kindOf x ≡ 5 → ⊥
+module _ {table : List ℕ} {n top w : ℕ} (e : w ≡ getD table (recordWords * (top - 1) + 0) 0) (z : w ≡ 5 → ⊥) where
+  other : {before : List ℕ} {x : Node} {l m : List Token} → Placed table n top before x l m → kindOf x ≡ 5 → ⊥
   other p h = z (e ∙ own-word p 0 (omega arith) ∙ h)
 
-  pub void-fits : SomeFitting t7 table n part → SomeFitting (dropping Void) table n part
+  pub void-fits : SomeFitting t7 table n top → SomeFitting (dropping Void) table n top
   void-fits s = some-wide s (void-alternation (s .node) (other (s .fitting .placed)))
 
-  pub void-drops : {table₁ : List ℕ} {n′ : ℕ} → Rewrites (dropping Void) table table₁ n part n′
-      → Rewrites t7 table table₁ n part n′
+  pub void-drops : {table₁ : List ℕ} {n′ : ℕ} → Rewrites (dropping Void) table table₁ n top n′
+      → Rewrites t7 table table₁ n top n′
   void-drops r = record {
     by = λ before x y l m f. r .by before x y l m (fitting-wide (void-alternation x (other (f .placed))) f);
   }

@@ -19,14 +19,14 @@ use Rattle.tidying_shapes.specs.Told.{skeleton-count}
 use Rattle.tidying_rewriting.specs.Rewriting.{Fitting, SomeFitting, Rewrites, own-word, count}
 use Rattle.tidying_rewriting.specs.Own.{own-said, inside-here}
 use Rattle.tidying_rewriting.specs.Dropped.{each-proper}
-use Rattle.tidying_rewriting.specs.Rows.{skeletons-count, skeletons-append, Closes}
+use Rattle.tidying_rewriting.specs.Rows.{skeletons-count, skeletons-append, Rejoins}
 use Rattle.tidying_sharing.specs.Leads.{Lead, Lead.single, Lead.leading, opening}
 use Rattle.tidying_sharing.specs.Trims.{trimmed, lead-tokens}
 use Rattle.tidying_sharing.specs.Wraps.{setToken, Wraps}
 use Rattle.tidying_sharing.specs.Runs.{row-front}
 use Rattle.tidying_sharing.specs.Shortening.{wordLimit, widths, Running, SomeRunning, Shortens}
 use Rattle.tidying_sharing.specs.Shares.{Shares, shares-of, leads, rests, after, the-run, two-leads, split-run}
-use Rattle.tidying_sharing.specs.Shares.{ending, closed-ending, result-tokens}
+use Rattle.tidying_sharing.specs.Shares.{ending, rejoined-ending, result-tokens}
 use Rattle.tidying_sharing.specs.Located.{Sharing, SomeSharing, Located}
 
 -- The first token of an alternative that begins with a set is the set's.
@@ -188,9 +188,9 @@ module _ {table : List ℕ} {n part : ℕ} {before : List ℕ} {x y : Node} {l m
         )
 
         -- The own record of the alternation, and the alternatives that it has then.
-        pub close-room : (n ≤ part + n₁) × (part + n₁ - n < n₁) × (recordWords * n₁ ≤ length table₁)
+        pub rejoin-room : (n ≤ part + n₁) × (part + n₁ - n < n₁) × (recordWords * n₁ ≤ length table₁)
             × (2 ≤ gone) × (gone ≤ items) × (n ≤ stop + n₁) × (stop ≤ n) × (recordWords * n ≤ length table)
-        close-room = omega (
+        rejoin-room = omega (
           arith,
           short-count,
           count-all,
@@ -214,9 +214,9 @@ module _ {table : List ℕ} {n part : ℕ} {before : List ℕ} {x y : Node} {l m
             ++ (rowToken alternation (widths (rests k)) ∷ rowToken sequence 2 ∷ (behind ++ ending (items - gone + 1) m))))
         result = result-tokens k apart (items - gone + 1) m counted
 
-        module _ {table₂ : List ℕ} {n₂ : ℕ} (cl : Closes table₁ table₂ n₁ (part + n₁ - n) (items - gone + 1) n₂) where
-          closed-said : Says table₂ n₂ ((l ++ front) ++ (rest ++ (behind ++ ending (items - gone + 1) m)))
-          closed-said =
+        module _ {table₂ : List ℕ} {n₂ : ℕ} (cl : Rejoins table₁ table₂ n₁ (part + n₁ - n) (items - gone + 1) n₂) where
+          rejoined-said : Says table₂ n₂ ((l ++ front) ++ (rest ++ (behind ++ ending (items - gone + 1) m)))
+          rejoined-said =
               let parts : List Token = front ++ (rest ++ behind) in
               let kept : ℕ = items - gone + 1 in
               let own : Token = rowToken alternation (length (inner x)) in
@@ -227,7 +227,7 @@ module _ {table : List ℕ} {n part : ℕ} {before : List ℕ} {x y : Node} {l m
               = omega (arith, short-count, count-all, length-append front (rest ++ behind), length-append rest behind) in
               let done = cl .by alternation (length (inner x)) l parts m low (λ z. absurd (omega arith)) ready in
               rw (append-assoc l front) (subst (λ (ts : List Token). Says table₂ n₂ (l ++ ts))
-              (closed-ending kept parts m (omega arith) ∙ regroup front rest behind (ending kept m)) done)
+              (rejoined-ending kept parts m (omega arith) ∙ regroup front rest behind (ending kept m)) done)
 
           -- Room for three records more is that of the result.
           pub wrap-room : (from ≤ stop + n₁ - n) × (stop + n₁ - n ≤ n₂) × (recordWords * (n₂ + 3) ≤ length table)
@@ -242,7 +242,7 @@ module _ {table : List ℕ} {n part : ℕ} {before : List ℕ} {x y : Node} {l m
                 all,
                 starts,
                 stops,
-                says-length closed-said,
+                says-length rejoined-said,
                 length-append (l ++ front) (rest ++ (behind ++ last)),
                 length-append l front,
                 length-append rest (behind ++ last),
@@ -266,7 +266,7 @@ module _ {table : List ℕ} {n part : ℕ} {before : List ℕ} {x y : Node} {l m
               let done : Says table₃ n₃ (told (k .set) (widths (rests k)))
               = subst (λ (parts : ℕ). Says table₃ n₃ (told (k .set) parts)) (shortened .2)
               (subst (λ (bytes : List ℕ). Says table₃ n₃ (told bytes width)) e
-              (w .by (l ++ front) rest (behind ++ last) low high closed-said)) in
+              (w .by (l ++ front) rest (behind ++ last) low high rejoined-said)) in
               rw (result, ← append-assoc) done
 
 -- So it is carried out.
@@ -281,7 +281,7 @@ some-sharing s = record {
 pub shares : {table table₁ table₂ table₃ set : List ℕ} {n part from stop n₁ gone width items n₂ n₃ : ℕ}
     → Located from stop table part → set ≡ take 8 (drop (recordWords * from + 8) table)
     → Shortens table table₁ n from stop n₁ gone width → items ≡ getD table (recordWords * (part + 1 - 1) + 3) 0
-    → Closes table₁ table₂ n₁ (part + n₁ - n) (items - gone + 1) n₂
+    → Rejoins table₁ table₂ n₁ (part + n₁ - n) (items - gone + 1) n₂
     → Wraps table₂ table₃ n₂ from (stop + n₁ - n) width set n₃ → Rewrites t8 table table₃ n part n₃
 shares at e sh i cl w = record {
   by = λ before x y l m fit. wrapped-said fit at sh i cl (e ∙ set-there fit at .1) w;

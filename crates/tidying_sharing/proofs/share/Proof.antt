@@ -3,7 +3,7 @@ use borrow.Author.Needs.{needs}
 use Prim.Native.Nat.{_+_, _-_, _*_}
 use native.Mathlib.Omega.{arith}
 use Rattle.table.specs.Table.{recordWords}
-use Rattle.tidying_sharing.specs.Sharing.{some-sharing, set-there, running-there, close-room, wrap-room, shares}
+use Rattle.tidying_sharing.specs.Sharing.{some-sharing, set-there, running-there, rejoin-room, wrap-room, shares}
 use Rattle.tidying_sharing.proofs.share.Statement.{statement}
 use Rattle.tidying_sharing.proofs.share.Tie as tie
 
@@ -32,45 +32,45 @@ shorten-requires c κs =
     let records = recordWords * (entry .args .part + 1 - 1) + 2 in
     running-there (entry .pre .fitting) (found .find .ensures) (omega (arith, known .slice-known .given records))
 
-add-close : tie.Need-add-close
-add-close c =
+add-rejoin : tie.Need-add-rejoin
+add-rejoin c =
     let short = c .before .before .before .before in
     let found = short .before .before .before .before in
     let items = found .before .before in
     let entry = items .before .before .before in
-    omega (arith, close-room (entry .pre .fitting) (found .find .ensures) (short .shorten .ensures) (items .word .ensures))
+    omega (arith, rejoin-room (entry .pre .fitting) (found .find .ensures) (short .shorten .ensures) (items .word .ensures))
 
-sub-close : tie.Need-sub-close
-sub-close c =
+sub-rejoin : tie.Need-sub-rejoin
+sub-rejoin c =
     let short = c .before .before .before .before in
     let found = short .before .before .before .before in
     let items = found .before .before in
     let entry = items .before .before .before in
-    omega (arith, close-room (entry .pre .fitting) (found .find .ensures) (short .shorten .ensures) (items .word .ensures))
+    omega (arith, rejoin-room (entry .pre .fitting) (found .find .ensures) (short .shorten .ensures) (items .word .ensures))
 
-sub-close-2 : tie.Need-sub-close-2
-sub-close-2 c =
+sub-rejoin-2 : tie.Need-sub-rejoin-2
+sub-rejoin-2 c =
     let short = c .before .before .before .before .before in
     let found = short .before .before .before .before in
     let items = found .before .before in
     let entry = items .before .before .before in
-    omega (arith, close-room (entry .pre .fitting) (found .find .ensures) (short .shorten .ensures) (items .word .ensures))
+    omega (arith, rejoin-room (entry .pre .fitting) (found .find .ensures) (short .shorten .ensures) (items .word .ensures))
 
-add-close-2 : tie.Need-add-close-2
-add-close-2 c =
+add-rejoin-2 : tie.Need-add-rejoin-2
+add-rejoin-2 c =
     let short = c .before .before .before .before .before in
     let found = short .before .before .before .before in
     let items = found .before .before in
     let entry = items .before .before .before in
-    omega (arith, close-room (entry .pre .fitting) (found .find .ensures) (short .shorten .ensures) (items .word .ensures))
+    omega (arith, rejoin-room (entry .pre .fitting) (found .find .ensures) (short .shorten .ensures) (items .word .ensures))
 
-close-requires : tie.Need-close-requires
-close-requires c κs =
+rejoin-requires : tie.Need-rejoin-requires
+rejoin-requires c κs =
     let short = c .before .before .before .before .before in
     let found = short .before .before .before .before in
     let items = found .before .before in
     let entry = items .before .before .before in
-    omega (arith, close-room (entry .pre .fitting) (found .find .ensures) (short .shorten .ensures) (items .word .ensures))
+    omega (arith, rejoin-room (entry .pre .fitting) (found .find .ensures) (short .shorten .ensures) (items .word .ensures))
 
 add-wrap : tie.Need-add-wrap
 add-wrap c =
@@ -78,7 +78,7 @@ add-wrap c =
     let found = short .before .before .before .before in
     let items = found .before .before in
     let entry = items .before .before .before in
-    omega (arith, close-room (entry .pre .fitting) (found .find .ensures) (short .shorten .ensures) (items .word .ensures))
+    omega (arith, rejoin-room (entry .pre .fitting) (found .find .ensures) (short .shorten .ensures) (items .word .ensures))
 
 sub-wrap : tie.Need-sub-wrap
 sub-wrap c =
@@ -86,18 +86,18 @@ sub-wrap c =
     let found = short .before .before .before .before in
     let items = found .before .before in
     let entry = items .before .before .before in
-    omega (arith, close-room (entry .pre .fitting) (found .find .ensures) (short .shorten .ensures) (items .word .ensures))
+    omega (arith, rejoin-room (entry .pre .fitting) (found .find .ensures) (short .shorten .ensures) (items .word .ensures))
 
 wrap-requires : tie.Need-wrap-requires
 wrap-requires c κs =
-    let closed = c .before .before .before .before in
-    let short = closed .before .before .before .before .before .before in
+    let rejoined = c .before .before .before .before in
+    let short = rejoined .before .before .before .before .before .before in
     let read = short .before .before in
     let found = read .before .before in
     let items = found .before .before in
     let entry = items .before .before .before in
     let room = wrap-room (entry .pre .fitting) (found .find .ensures) (short .shorten .ensures) (items .word .ensures)
-    (closed .close .ensures) in
+    (rejoined .rejoin .ensures) in
     omega (arith, read .last-words .ok)
 
 same-length : tie.Need-same-length
@@ -106,13 +106,13 @@ same-length c = search needs
 returns : tie.Need-returns
 returns c =
     let wrapped = c .before .before in
-    let closed = wrapped .before .before .before .before .before in
-    let short = closed .before .before .before .before .before .before in
+    let rejoined = wrapped .before .before .before .before .before in
+    let short = rejoined .before .before .before .before .before .before in
     let read = short .before .before in
     let found = read .before .before in
     let items = found .before .before in
     shares (found .find .ensures) (read .last-words .ensures) (short .shorten .ensures) (items .word .ensures)
-    (closed .close .ensures) (wrapped .wrap .ensures)
+    (rejoined .rejoin .ensures) (wrapped .wrap .ensures)
 
 pub share-spec : {M : Type 1} → statement M
 share-spec =
@@ -123,11 +123,11 @@ share-spec =
     find-requires
     last-words-requires
     shorten-requires
-    add-close
-    sub-close
-    sub-close-2
-    add-close-2
-    close-requires
+    add-rejoin
+    sub-rejoin
+    sub-rejoin-2
+    add-rejoin-2
+    rejoin-requires
     add-wrap
     sub-wrap
     wrap-requires
