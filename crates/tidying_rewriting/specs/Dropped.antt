@@ -55,7 +55,7 @@ module _ {table : List ℕ} {n top : ℕ} {before : List ℕ} {x : Node} {l m : 
   part-count = skeleton-count q (sound .0 .proper)
 
   -- Before it stand the tokens on the left and those of the parts in front.
-  pub part-end : length l + length (concatMap skeleton front) + recordCount q + length (concatMap skeleton more) ≡ top - 1
+  pub part-end : length l + length (concatMap skeleton front) + recordCount q + length (concatMap skeleton more) + 1 ≡ top
   part-end = omega (
     arith,
     inside-here p,
@@ -172,7 +172,7 @@ module _ {mark : Mark} {table table′ : List ℕ} {n top n′ end from items : 
   abbrev b : List Token
   b = concatMap skeleton more
 
-  numbers : (length q ≡ recordCount gone) × (length l + length a + length q + length b ≡ top - 1)
+  numbers : (length q ≡ recordCount gone) × (length l + length a + length q + length b + 1 ≡ top)
   numbers =
       let count = part-count (fit .placed) front gone more (d .drop .split) in
       (count, omega (arith, part-end (fit .placed) front gone more (d .drop .split)))

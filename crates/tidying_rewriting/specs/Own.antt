@@ -1,7 +1,7 @@
 -- The tokens of a part are those of the parts inside it, and then its own: what edits of the own record do.
 use mathlib.Core.Path.{_≡_, refl, sym, ap, _∙_}
 use mathlib.Core.List.{List, [], _∷_, _++_, append-assoc}
-use Prim.Native.Nat.{ℕ, suc, _+_, _-_, _*_, _≤_, _<_}
+use Prim.Native.Nat.{ℕ, suc, _+_, _-_, _*_, _≤_}
 use native.Mathlib.Omega.{arith}
 use lib.ListN.{length, getD, length-append}
 use Rattle.meaning.specs.Node.{Node, Node.empty}
@@ -25,7 +25,7 @@ module _ {table : List ℕ} {n top : ℕ} {before : List ℕ} {x : Node} {l m : 
   inside-count =
       omega (arith, ap length (inner-skeleton x), length-append inside (token x ∷ []), skeleton-count x (p .ends .sound .proper))
 
-  pub inside-here : length l + length (concatMap skeleton (inner x)) ≡ top - 1
+  pub inside-here : length l + length (concatMap skeleton (inner x)) + 1 ≡ top
   inside-here = omega (arith, inside-count, skeleton-count x (p .ends .sound .proper), p .here)
 
   -- The word that says how many records it has, and that they are there.

@@ -32,7 +32,7 @@ walk-start {table} {n} {top} {w} {before} {x} p e =
     let all : length (inner x) ≡ w = sym (e ∙ own-word p 3 (omega arith)) in
     record {
       row = subst (λ (i : ℕ). Row table (top - 1) i before (inner x)) all (inside (p .ends));
-      low = inside-here p;
+      low = omega (arith, inside-here p);
       says = own-said p;
     }
 

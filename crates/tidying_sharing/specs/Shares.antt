@@ -42,7 +42,7 @@ abbrev sharedRow : List Node → Option Node
 sharedRow l = Option·map (join alternation) (share l)
 
 pub shares-of : (x y : Node) → t8 x ≡ some y → Shares x y
-unfolding t8 share leftmost
+unfolding share leftmost
 shares-of x y e = go (inner x) refl
   where
     row : RowOf alternation sharedRow x y
