@@ -1,4 +1,4 @@
--- What the readers ask and what they answer. All is a record, so that a proof names no argument of it.
+-- What the readers ask and what they answer. Each is a record, so that a proof names no argument of it.
 use mathlib.Core.Path.{_≡_}
 use mathlib.Core.Bool.{Bool, true, false}
 use mathlib.Core.List.{List, [], _∷_, _++_}

@@ -1,4 +1,4 @@
--- What stands in a table below a record, and the contracts of the table's functions. All is a record, so that callers name no
+-- What stands in a table below a record, and the contracts of the table's functions. Each is a record, so that callers name no
 -- argument.
 use mathlib.Core.Path.{_≡_}
 use mathlib.Core.List.{List, [], _∷_, _++_}

@@ -52,21 +52,21 @@ narrow = go (by (itself nothing) ∷ carriers)
 
 -- What is asked, if a law has the number: that it fits.
 abbrev pub Asked : ℕ → List ℕ → ℕ → ℕ → Type 0
-Asked law table n part = IsLaw law → SomeFitting (lawOf law) table n part
+Asked law table n top = IsLaw law → SomeFitting (lawOf law) table n top
 
 -- What is done: the law of the number is carried out; and if no law has it, nothing.
-pub record Carries (law : ℕ) (table table′ : List ℕ) (n part n′ : ℕ) : Type 0 where
-  pub by : Rewrites (lawOf law) table table′ n part n′
+pub record Carries (law : ℕ) (table table′ : List ℕ) (n top n′ : ℕ) : Type 0 where
+  pub by : Rewrites (lawOf law) table table′ n top n′
   pub nothing-done : (IsLaw law → ⊥) → (table′ ≡ table) × (n′ ≡ n)
 
 -- So where a number is that of a law, what is carried out for it fits, and carries out the law.
-module _ {table : List ℕ} {n part law : ℕ} (k : ℕ) (e : law ≡ k) (l : IsLaw k) where
-  pub fits-carried : Asked law table n part → SomeFitting (carried k) table n part
+module _ {table : List ℕ} {n top law : ℕ} (k : ℕ) (e : law ≡ k) (l : IsLaw k) where
+  pub fits-carried : Asked law table n top → SomeFitting (carried k) table n top
   fits-carried asked = let s = asked (rw e l) in
-      subst (λ (k : ℕ). SomeFitting (carried k) table n part) e (some-wide s (narrow law .by (s .node)))
+      subst (λ (k : ℕ). SomeFitting (carried k) table n top) e (some-wide s (narrow law .by (s .node)))
 
-  pub carries : {table′ : List ℕ} {n′ : ℕ} → Rewrites (carried k) table table′ n part n′ → Carries law table table′ n part n′
+  pub carries : {table′ : List ℕ} {n′ : ℕ} → Rewrites (carried k) table table′ n top n′ → Carries law table table′ n top n′
   carries {table′} {n′} r = record {
-    by = subst (λ (k : ℕ). Rewrites (lawOf k) table table′ n part n′) (sym e) (rewrites-narrow (narrow k) r);
+    by = subst (λ (k : ℕ). Rewrites (lawOf k) table table′ n top n′) (sym e) (rewrites-narrow (narrow k) r);
     nothing-done = λ h. absurd (h (rw e l));
   }

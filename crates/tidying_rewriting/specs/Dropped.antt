@@ -10,7 +10,7 @@ use Rattle.meaning.specs.Results.{concatMap}
 use Rattle.table.specs.Table.{recordWords, recordCount, records}
 use Rattle.meaning.specs.All.{All, all-append, all-left, all-right}
 use Rattle.table.specs.Laws.{inner, kindOf, parts-flat}
-use Rattle.table.specs.Laws.{countAll, records-append, long-all}
+use Rattle.table.specs.Laws.{countAll}
 use Rattle.table.specs.Stands.{Stands, Ends, Series, SomePart}
 use Rattle.table.specs.Roots.{inside, among-ends}
 use Rattle.tidying_laws.specs.Void.{void}
@@ -29,14 +29,14 @@ use Rattle.tidying_rewriting.specs.Rewriting.{some-wide}
 use Rattle.tidying_rewriting.specs.Rewriting.{within, own-word}
 use Rattle.tidying_rewriting.specs.Own.{own-said, inside-here}
 use Rattle.tidying_rewriting.specs.Frames.{Cut}
-use Rattle.tidying_rewriting.specs.Rows.{skeletons-count, skeletons-append, Closes, Closing, joined}
+use Rattle.tidying_rewriting.specs.Rows.{skeletons-count, skeletons-append, Rejoins, Rejoining, joined}
 use Rattle.tidying_rewriting.specs.Dropping.{dropping, Drop, drop-of, void-alternation, void-sequence}
 
 -- A part inside a part that is placed: where its records end.
-module _ {table : List ℕ} {n part : ℕ} {before : List ℕ} {x : Node} {l m : List Token}
-    (p : Placed table n part before x l m)
+module _ {table : List ℕ} {n top : ℕ} {before : List ℕ} {x : Node} {l m : List Token}
+    (p : Placed table n top before x l m)
     (front : List Node) (q : Node) (more : List Node) (split : inner x ≡ front ++ (q ∷ more)) where
-  series : Series table (part + 1 - 1) (length (front ++ (q ∷ more))) before (front ++ (q ∷ more))
+  series : Series table (top - 1) (length (front ++ (q ∷ more))) before (front ++ (q ∷ more))
   series = rw split at (inside (p .ends))
 
   proper : All Proper (q ∷ more)
@@ -52,7 +52,7 @@ module _ {table : List ℕ} {n part : ℕ} {before : List ℕ} {x : Node} {l m :
   part-count = skeleton-count q (proper .0)
 
   -- Before it stand the tokens on the left and those of the parts in front.
-  pub part-end : length l + length (concatMap skeleton front) + recordCount q + length (concatMap skeleton more) ≡ part
+  pub part-end : length l + length (concatMap skeleton front) + recordCount q + length (concatMap skeleton more) + 1 ≡ top
   part-end = omega (
     arith,
     inside-here p,
@@ -65,32 +65,32 @@ module _ {table : List ℕ} {n part : ℕ} {before : List ℕ} {x : Node} {l m :
   pub part-ends : Ends table (length l + length (concatMap skeleton front) + recordCount q)
       (before ++ concatMap records front) q
   part-ends =
-      let number : part + 1 - 1 - countAll more ≡ length l + length (concatMap skeleton front) + recordCount q
+      let number : top - 1 - countAll more ≡ length l + length (concatMap skeleton front) + recordCount q
       = omega (arith, part-end, skeletons-count more (proper .1)) in
       rw number at (among-ends front q more series)
 
 -- The numbers of records at which the alternative that goes ends and starts, and how many alternatives there are.
-pub record DropAt (mark : Mark) (n part : ℕ) (x y : Node) (l : List Token) (end from items : ℕ) : Type 0 where
+pub record DropAt (mark : Mark) (n top : ℕ) (x y : Node) (l : List Token) (end from items : ℕ) : Type 0 where
   pub drop : Drop mark x y
   pub start : from ≡ length l + length (concatMap skeleton (drop .at .front))
   pub gone : end - from ≡ recordCount (drop .at .part)
   pub order : from ≤ end
-  pub few : end ≤ part
-  pub inside : part < n
+  pub few : end < top
+  pub inside : top ≤ n
   pub all : items ≡ length (inner x)
   pub some : 1 ≤ items
 
-module _ (mark : Mark) {table : List ℕ} {n part : ℕ} {before : List ℕ} {x y : Node} {l m : List Token}
-    (fit : Fitting (dropping mark) table n part before x y l m) where
+module _ (mark : Mark) {table : List ℕ} {n top : ℕ} {before : List ℕ} {x y : Node} {l m : List Token}
+    (fit : Fitting (dropping mark) table n top before x y l m) where
   drop : Drop mark x y
   drop = drop-of mark x y (fit .fits)
 
   abbrev ended : ℕ
   ended = length l + length (concatMap skeleton (drop .at .front)) + recordCount (drop .at .part)
 
-  drop-end : {end : ℕ} → Tells end table (part + 1) (markedEnd mark (part + 1)) → end ≡ ended
+  drop-end : {end : ℕ} → Tells end table top (markedEnd mark top) → end ≡ ended
   drop-end t =
-      let told = t .by before x (fit .placed .ends) ∙ ap (endOf (part + 1 - recordCount x)) (drop .found) in
+      let told = t .by before x (fit .placed .ends) ∙ ap (endOf (top - recordCount x)) (drop .found) in
       omega (
         arith,
         told,
@@ -99,41 +99,42 @@ module _ (mark : Mark) {table : List ℕ} {n part : ℕ} {before : List ℕ} {x 
         front-count (fit .placed) (drop .at .front) (drop .at .part) (drop .at .more) (drop .split),
       )
 
-  drop-ends : {end : ℕ} → Tells end table (part + 1) (markedEnd mark (part + 1))
+  drop-ends : {end : ℕ} → Tells end table top (markedEnd mark top)
       → Ends table end (before ++ concatMap records (drop .at .front)) (drop .at .part)
   drop-ends t =
       rw (drop-end t) (part-ends (fit .placed) (drop .at .front) (drop .at .part) (drop .at .more) (drop .split))
 
-  pub drop-there : {end : ℕ} → Tells end table (part + 1) (markedEnd mark (part + 1)) → SomePart table end
+  pub drop-there : {end : ℕ} → Tells end table top (markedEnd mark top) → SomePart table end
   drop-there t =
       record { before = before ++ concatMap records (drop .at .front); part = drop .at .part; ends = drop-ends t }
 
-  pub drop-at : {end from items : ℕ} → Tells end table (part + 1) (markedEnd mark (part + 1))
-      → Tells from table end (startOf end) → items ≡ getD table (recordWords * (part + 1 - 1) + 3) 0
-      → DropAt mark n part x y l end from items
+  pub drop-at : {end from items : ℕ} → Tells end table top (markedEnd mark top)
+      → Tells from table end (startOf end) → items ≡ getD table (recordWords * (top - 1) + 3) 0
+      → DropAt mark n top x y l end from items
   drop-at {end} {from} {items} t s e =
       let started : from ≡ end - recordCount (drop .at .part) = s .by _ _ (drop-ends t) in
       let all : items ≡ length (inner x) = e ∙ own-word (fit .placed) 3 (omega arith) in
       let stop : end ≡ ended = drop-end t in
       let one = ap length (drop .split) in
+      let low = within (fit .placed) in
       record {
         drop = drop;
         start = omega arith;
         gone = omega arith;
         order = omega arith;
         few = omega (arith, part-end (fit .placed) (drop .at .front) (drop .at .part) (drop .at .more) (drop .split));
-        inside = omega (arith, within (fit .placed));
+        inside = omega arith;
         all = all;
         some = omega (arith, length-append (drop .at .front) (drop .at .part ∷ drop .at .more));
       }
 
--- Without it the others are left, and the series is closed over them.
+-- Without it the others are left, and the series is rejoined over them.
 each-without : (k : Kind) (a : List Node) (q : Node) (b : List Node) → All (Not k) (a ++ (q ∷ b)) → All (Not k) (a ++ b)
 each-without k a q b h = all-append (Not k) a b (all-left (Not k) a (q ∷ b) h) (all-right (Not k) a (q ∷ b) h .1)
 
-module _ {mark : Mark} {table table′ : List ℕ} {n part n′ end from items : ℕ} {before : List ℕ} {x y : Node}
-    {l m : List Token} (fit : Fitting (dropping mark) table n part before x y l m)
-    (d : DropAt mark n part x y l end from items) (cut : Cut table table′ n from (end - from) n′) where
+module _ {mark : Mark} {table table′ : List ℕ} {n top n′ end from items : ℕ} {before : List ℕ} {x y : Node}
+    {l m : List Token} (fit : Fitting (dropping mark) table n top before x y l m)
+    (d : DropAt mark n top x y l end from items) (cut : Cut table table′ n from (end - from) n′) where
   abbrev front : List Node
   front = d .drop .at .front
 
@@ -152,7 +153,7 @@ module _ {mark : Mark} {table table′ : List ℕ} {n part n′ end from items :
   abbrev b : List Token
   b = concatMap skeleton more
 
-  numbers : (length q ≡ recordCount gone) × (length l + length a + length q + length b ≡ part)
+  numbers : (length q ≡ recordCount gone) × (length l + length a + length q + length b + 1 ≡ top)
   numbers =
       let count = part-count (fit .placed) front gone more (d .drop .split) in
       (count, omega (arith, part-end (fit .placed) front gone more (d .drop .split)))
@@ -173,8 +174,8 @@ module _ {mark : Mark} {table table′ : List ℕ} {n part n′ end from items :
       = ap (λ ts. ts ++ rest) (skeletons-append front more) ∙ append-assoc a b rest in
       rw (← d .drop .says, left, ← append-assoc) short
 
-  pub drop-closing : Closing table′ n′ (part + n′ - n) (items - 1) alternation (without (d .drop .at)) l m
-  drop-closing = record {
+  pub drop-rejoining : Rejoining table′ n′ (top + n′ - n) (items - 1) alternation (without (d .drop .at)) l m
+  drop-rejoining = record {
     old = length (inner x);
     says = left-said;
     here = omega
@@ -185,19 +186,19 @@ module _ {mark : Mark} {table table′ : List ℕ} {n part n′ end from items :
         (rw (← d .drop .split, d .drop .all) (parts-flat alternation x (fit .placed .flat)));
   }
 
-pub drops : (mark : Mark) {table table₁ table₂ : List ℕ} {n part n₁ n₂ end from items : ℕ}
-    → Tells end table (part + 1) (markedEnd mark (part + 1)) → Tells from table end (startOf end)
-    → items ≡ getD table (recordWords * (part + 1 - 1) + 3) 0 → Cut table table₁ n from (end - from) n₁
-    → Closes table₁ table₂ n₁ (part + n₁ - n) (items - 1) n₂ → Rewrites (dropping mark) table table₂ n part n₂
+pub drops : (mark : Mark) {table table₁ table₂ : List ℕ} {n top n₁ n₂ end from items : ℕ}
+    → Tells end table top (markedEnd mark top) → Tells from table end (startOf end)
+    → items ≡ getD table (recordWords * (top - 1) + 3) 0 → Cut table table₁ n from (end - from) n₁
+    → Rejoins table₁ table₂ n₁ (top + n₁ - n) (items - 1) n₂ → Rewrites (dropping mark) table table₂ n top n₂
 drops mark t s e cut c = record {
   by = λ before x y l m fit.
       let d = drop-at mark fit t s e in
-      rw (d .drop .result) at (joined c (drop-closing fit d cut));
+      rw (d .drop .result) at (joined c (drop-rejoining fit d cut));
 }
 
 -- T7, by the kind of the part: a sequence becomes the empty set.
-pub voids : {table table₁ : List ℕ} {n part n′ w : ℕ} → w ≡ getD table (recordWords * (part + 1 - 1) + 0) 0 → w ≡ 5
-    → Shrinks table table₁ n part 2 n′ → Rewrites t7 table table₁ n part n′
+pub voids : {table table₁ : List ℕ} {n top n′ w : ℕ} → w ≡ getD table (recordWords * (top - 1) + 0) 0 → w ≡ 5
+    → Shrinks table table₁ n top 2 n′ → Rewrites t7 table table₁ n top n′
 unfolding skeletonIn inner
 voids e z s = record {
   by = λ before x y l m f.
@@ -206,15 +207,15 @@ voids e z s = record {
 }
 
 -- And of an alternation the leftmost empty set goes.
-module _ {table : List ℕ} {n part w : ℕ} (e : w ≡ getD table (recordWords * (part + 1 - 1) + 0) 0) (z : w ≡ 5 → ⊥) where
-  other : {before : List ℕ} {x : Node} {l m : List Token} → Placed table n part before x l m → kindOf x ≡ 5 → ⊥
+module _ {table : List ℕ} {n top w : ℕ} (e : w ≡ getD table (recordWords * (top - 1) + 0) 0) (z : w ≡ 5 → ⊥) where
+  other : {before : List ℕ} {x : Node} {l m : List Token} → Placed table n top before x l m → kindOf x ≡ 5 → ⊥
   other p h = z (e ∙ own-word p 0 (omega arith) ∙ h)
 
-  pub void-fits : SomeFitting t7 table n part → SomeFitting (dropping Void) table n part
+  pub void-fits : SomeFitting t7 table n top → SomeFitting (dropping Void) table n top
   void-fits s = some-wide s (void-alternation (s .node) (other (s .fitting .placed)))
 
-  pub void-drops : {table₁ : List ℕ} {n′ : ℕ} → Rewrites (dropping Void) table table₁ n part n′
-      → Rewrites t7 table table₁ n part n′
+  pub void-drops : {table₁ : List ℕ} {n′ : ℕ} → Rewrites (dropping Void) table table₁ n top n′
+      → Rewrites t7 table table₁ n top n′
   void-drops r = record {
     by = λ before x y l m f. r .by before x y l m (fitting-wide (void-alternation x (other (f .placed))) f);
   }

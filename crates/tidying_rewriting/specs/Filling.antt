@@ -25,7 +25,7 @@ use Rattle.tidying_shapes.specs.Tokens.{Says}
 use Rattle.tidying_shapes.specs.Laws.{says-length}
 use Rattle.tidying_rewriting.specs.Rewriting.{Placed, Fitting, SomeFitting, Rewrites, ok-some, count}
 use Rattle.tidying_rewriting.specs.Frames.{Cut}
-use Rattle.tidying_rewriting.specs.Rows.{RowOf, row-of, Closes, Closing, joined}
+use Rattle.tidying_rewriting.specs.Rows.{RowOf, row-of, Rejoins, Rejoining, joined}
 use Rattle.tidying_rewriting.specs.Walks.{Walked, walk-start, Turned, turned, last-word}
 
 -- Of the items behind those still to be walked the filled ones are left, `kept` of them.
@@ -38,8 +38,8 @@ pub record Filling (table : List ℕ) (n end left kept : ℕ) (before : List ℕ
 
 module _ {table : List ℕ} {n : ℕ} {before : List ℕ} {x : Node} {l m : List Token} where
   -- It begins with no item behind,
-  pub filling-start : {part w : ℕ} → Placed table n part before x l m → w ≡ getD table (recordWords * (part + 1 - 1) + 3) 0
-      → Filling table n part w 0 before x l m
+  pub filling-start : {top w : ℕ} → Placed table n top before x l m → w ≡ getD table (recordWords * (top - 1) + 3) 0
+      → Filling table n (top - 1) w 0 before x l m
   unfolding filled
   filling-start p e = record {
     rest = inner x;
@@ -122,7 +122,7 @@ module _ {table : List ℕ} {n : ℕ} {before : List ℕ} {x : Node} {l m : List
     pub item-few : {v : ℕ} → v ≡ getD table (recordWords * (end - 1) + 2) 0 → v ≤ end
     item-few r = let all = r ∙ last-word turn 2 (omega arith) in omega (arith, turn .few)
 
--- In the end the series is closed over the filled items.
+-- In the end the series is rejoined over the filled items.
 each-filled : (l : List Node) → All (Not sequence) l → All (Not sequence) (filled l)
 unfolding filled
 each-filled [] h = tt
@@ -135,8 +135,8 @@ each-filled (r ∷ l) h = go (isEmpty r) (each-filled l (h .1))
 abbrev filledRow : List Node → Option Node
 filledRow l = when (any isEmpty l) (join sequence (filled l))
 
-module _ {table₀ : List ℕ} {n₀ part : ℕ} {before : List ℕ} {x y : Node} {l m : List Token}
-    (fit : Fitting t1 table₀ n₀ part before x y l m) where
+module _ {table₀ : List ℕ} {n₀ top : ℕ} {before : List ℕ} {x y : Node} {l m : List Token}
+    (fit : Fitting t1 table₀ n₀ top before x y l m) where
   series : RowOf sequence filledRow x y
   series = ok-some (RowOf sequence filledRow x) (fit .fits) (row-of sequence filledRow x)
 
@@ -145,7 +145,7 @@ module _ {table₀ : List ℕ} {n₀ part : ℕ} {before : List ℕ} {x y : Node
       ok-some P (series .fits) (ok-when P (any isEmpty (inner x)) (join sequence (filled (inner x))) (λ t. refl))
 
   pub filled-room : {table : List ℕ} {n end left kept : ℕ} → Filling table n end left kept before x l m
-      → (n₀ ≤ part + n) × (part + n - n₀ < n) × (recordWords * n ≤ length table)
+      → (n₀ < top + n) × (top + n - n₀ ≤ n) × (recordWords * n ≤ length table)
   filled-room {n = n} f =
       let front : List Token = concatMap skeleton (f .rest) in
       let some : List Token = concatMap skeleton (filled (f .more)) in
@@ -161,14 +161,14 @@ module _ {table₀ : List ℕ} {n₀ part : ℕ} {before : List ℕ} {x y : Node
         length-append some (token x ∷ m),
       )
 
-  pub filled-closing : {table : List ℕ} {n end left kept : ℕ} → left ≤ 0 → Filling table n end left kept before x l m
-      → Closing table n (part + n - n₀) kept sequence (filled (inner x)) l m
-  filled-closing {table} {n} {end} {left} {kept} z f =
+  pub filled-rejoining : {table : List ℕ} {n end left kept : ℕ} → left ≤ 0 → Filling table n end left kept before x l m
+      → Rejoining table n (top + n - n₀) kept sequence (filled (inner x)) l m
+  filled-rejoining {table} {n} {end} {left} {kept} z f =
       go (f .rest) (f .split) (omega (arith, f .walk .series .counted)) (f .walk .says)
     where
       go : (rest : List Node) → inner x ≡ rest ++ f .more → length rest ≤ 0
           → Says table n (l ++ (concatMap skeleton rest ++ (concatMap skeleton (filled (f .more)) ++ (token x ∷ m))))
-          → Closing table n (part + n - n₀) kept sequence (filled (inner x)) l m
+          → Rejoining table n (top + n - n₀) kept sequence (filled (inner x)) l m
       go (r ∷ rest) e h s = absurd (not-suc-le-zero h)
       go [] e h s =
           let some : List Token = concatMap skeleton (filled (inner x)) in
@@ -191,18 +191,18 @@ module _ {table₀ : List ℕ} {n₀ part : ℕ} {before : List ℕ} {x y : Node
           }
 
 -- What the loop keeps, whatever the part is.
-pub record Fills (table₀ : List ℕ) (n₀ part : ℕ) (table : List ℕ) (n end left kept : ℕ) : Type 0 where
-  pub by : (before : List ℕ) (x y : Node) (l m : List Token) → Fitting t1 table₀ n₀ part before x y l m
+pub record Fills (table₀ : List ℕ) (n₀ top : ℕ) (table : List ℕ) (n end left kept : ℕ) : Type 0 where
+  pub by : (before : List ℕ) (x y : Node) (l m : List Token) → Fitting t1 table₀ n₀ top before x y l m
       → Filling table n end left kept before x l m
 
-pub one-filling : {table₀ table : List ℕ} {n₀ part n end left kept : ℕ} (s : SomeFitting t1 table₀ n₀ part)
-    → Fills table₀ n₀ part table n end left kept → Filling table n end left kept (s .before) (s .node) (s .left) (s .right)
+pub one-filling : {table₀ table : List ℕ} {n₀ top n end left kept : ℕ} (s : SomeFitting t1 table₀ n₀ top)
+    → Fills table₀ n₀ top table n end left kept → Filling table n end left kept (s .before) (s .node) (s .left) (s .right)
 one-filling s f = f .by (s .before) (s .node) (s .result) (s .left) (s .right) (s .fitting)
 
-pub fills-all : {table₀ table table′ : List ℕ} {n₀ part n n′ end left kept : ℕ} → left ≤ 0
-    → Fills table₀ n₀ part table n end left kept → Closes table table′ n (part + n - n₀) kept n′
-    → Rewrites t1 table₀ table′ n₀ part n′
+pub fills-all : {table₀ table table′ : List ℕ} {n₀ top n n′ end left kept : ℕ} → left ≤ 0
+    → Fills table₀ n₀ top table n end left kept → Rejoins table table′ n (top + n - n₀) kept n′
+    → Rewrites t1 table₀ table′ n₀ top n′
 fills-all z f c = record {
   by = λ before x y l m fit.
-      rw (fill-result fit) at (joined c (filled-closing fit z (f .by before x y l m fit)));
+      rw (fill-result fit) at (joined c (filled-rejoining fit z (f .by before x y l m fit)));
 }

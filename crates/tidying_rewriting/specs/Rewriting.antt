@@ -12,6 +12,7 @@ use Rattle.table.specs.Laws.{inner, kindOf, operandOf, lastOf}
 use Rattle.table.specs.Roots.{root-word}
 use Rattle.tidying_laws.specs.Kept.{Ok}
 use Rattle.table.specs.Stands.{Ends}
+use Rattle.tidying_fitting.specs.Parts.{room}
 use Rattle.tidying_shapes.specs.Skeleton.{Token, skeleton}
 use Rattle.tidying_shapes.specs.Tokens.{Says}
 use Rattle.tidying_shapes.specs.Laws.{says-length}
@@ -20,46 +21,46 @@ use Rattle.tidying_shapes.specs.Laws.{says-length}
 abbrev pub Rule : Type 0
 Rule = Node → Option Node
 
--- A flat part whose own record is record `part`: its records end with that one, and its tokens stand among others.
-pub record Placed (table : List ℕ) (n part : ℕ) (before : List ℕ) (x : Node) (l m : List Token) : Type 0 where
-  pub ends : Ends table (part + 1) before x
+-- A flat part whose records end at record number `top`, its own the last, and its tokens stand among others.
+pub record Placed (table : List ℕ) (n top : ℕ) (before : List ℕ) (x : Node) (l m : List Token) : Type 0 where
+  pub ends : Ends table top before x
   pub says : Says table n (l ++ (skeleton x ++ m))
-  pub here : length l + length (skeleton x) ≡ part + 1
+  pub here : length l + length (skeleton x) ≡ top
   pub flat : Flat x
 
 -- A law fits it, and there is room for the result.
-pub record Fitting (law : Rule) (table : List ℕ) (n part : ℕ) (before : List ℕ) (x y : Node) (l m : List Token) : Type 0 where
-  pub placed : Placed table n part before x l m
+pub record Fitting (law : Rule) (table : List ℕ) (n top : ℕ) (before : List ℕ) (x y : Node) (l m : List Token) : Type 0 where
+  pub placed : Placed table n top before x l m
   pub fits : law x ≡ some y
   pub room : recordWords * (length l + length (skeleton y) + length m) ≤ length table
 
 -- What is asked: that there is such a part.
-pub record SomePlaced (table : List ℕ) (n part : ℕ) : Type 0 where
+pub record SomePlaced (table : List ℕ) (n top : ℕ) : Type 0 where
   pub before : List ℕ
   pub node : Node
   pub left : List Token
   pub right : List Token
-  pub placed : Placed table n part before node left right
+  pub placed : Placed table n top before node left right
 
-pub record SomeFitting (law : Rule) (table : List ℕ) (n part : ℕ) : Type 0 where
+pub record SomeFitting (law : Rule) (table : List ℕ) (n top : ℕ) : Type 0 where
   pub before : List ℕ
   pub node : Node
   pub result : Node
   pub left : List Token
   pub right : List Token
-  pub fitting : Fitting law table n part before node result left right
+  pub fitting : Fitting law table n top before node result left right
 
 -- What is done, whatever the part is: the tokens of the law's result are said in place of its own, and n′ records are left.
-pub record Rewrites (law : Rule) (table table′ : List ℕ) (n part n′ : ℕ) : Type 0 where
-  pub by : (before : List ℕ) (x y : Node) (l m : List Token) → Fitting law table n part before x y l m
+pub record Rewrites (law : Rule) (table table′ : List ℕ) (n top n′ : ℕ) : Type 0 where
+  pub by : (before : List ℕ) (x y : Node) (l m : List Token) → Fitting law table n top before x y l m
       → Says table′ n′ (l ++ (skeleton y ++ m))
 
 -- The part has become one record of a kind, with no operand, no items and no other word.
 abbrev pub leafToken : ℕ → Token
 leafToken kind = record { kind = kind; operand = 0; items = 0; last = replicate 8 0 }
 
-pub record Shrinks (table table′ : List ℕ) (n part kind n′ : ℕ) : Type 0 where
-  pub by : (before : List ℕ) (x : Node) (l m : List Token) → Placed table n part before x l m
+pub record Shrinks (table table′ : List ℕ) (n top kind n′ : ℕ) : Type 0 where
+  pub by : (before : List ℕ) (x : Node) (l m : List Token) → Placed table n top before x l m
       → Says table′ n′ (l ++ (leafToken kind ∷ m))
 
 -- A law that does no more than another: what it makes, the other makes too.
@@ -77,14 +78,14 @@ narrower-same {law} {wide} e = record { by = λ x. ok-same (law x) (wide x) (e x
 pub ok-some : (P : Node → Type 0) {o : Option Node} {y : Node} → o ≡ some y → Ok P o → P y
 ok-some P e h = subst (λ (o : Option Node). Ok P o) e h
 
-module _ {law wide : Rule} {table : List ℕ} {n part : ℕ} where
+module _ {law wide : Rule} {table : List ℕ} {n top : ℕ} where
   pub fitting-wide : {before : List ℕ} {x y : Node} {l m : List Token} → Ok (λ y. wide x ≡ some y) (law x)
-      → Fitting law table n part before x y l m → Fitting wide table n part before x y l m
+      → Fitting law table n top before x y l m → Fitting wide table n top before x y l m
   fitting-wide {x = x} h f = record { placed = f .placed; fits = ok-some (λ y. wide x ≡ some y) (f .fits) h; room = f .room }
 
   -- So where it fits the other fits, and what the other does it does.
-  pub some-wide : (s : SomeFitting law table n part) → Ok (λ y. wide (s .node) ≡ some y) (law (s .node))
-      → SomeFitting wide table n part
+  pub some-wide : (s : SomeFitting law table n top) → Ok (λ y. wide (s .node) ≡ some y) (law (s .node))
+      → SomeFitting wide table n top
   some-wide s h = record {
     before = s .before;
     node = s .node;
@@ -94,20 +95,20 @@ module _ {law wide : Rule} {table : List ℕ} {n part : ℕ} where
     fitting = fitting-wide h (s .fitting);
   }
 
-  pub rewrites-narrow : {table′ : List ℕ} {n′ : ℕ} → Narrower law wide → Rewrites wide table table′ n part n′
-      → Rewrites law table table′ n part n′
+  pub rewrites-narrow : {table′ : List ℕ} {n′ : ℕ} → Narrower law wide → Rewrites wide table table′ n top n′
+      → Rewrites law table table′ n top n′
   rewrites-narrow h r = record { by = λ before x y l m f. r .by before x y l m (fitting-wide (h .by x) f) }
 
 -- A part has a record, no more than stand there, and those below `n`.
-module _ {table : List ℕ} {n part : ℕ} {before : List ℕ} {x : Node} {l m : List Token}
-    (p : Placed table n part before x l m) where
+module _ {table : List ℕ} {n top : ℕ} {before : List ℕ} {x : Node} {l m : List Token}
+    (p : Placed table n top before x l m) where
   pub count : n ≡ length l + length (skeleton x) + length m
   count = omega (arith, says-length (p .says), length-append l (skeleton x ++ m), length-append (skeleton x) m)
 
-  pub within : (part + 1 ≤ n) × (recordWords * n ≤ length table)
-  within = omega (arith, count, p .here, p .says .room)
+  pub within : (0 < top) × (top ≤ n) × (recordWords * n ≤ length table)
+  within = omega (arith, count, p .here, p .says .room, room (p .ends) .some, room (p .ends) .few)
 
   -- What the words of its own record are.
-  pub own-word : (j : ℕ) → j < recordWords → wordOf table (part + 1) j
+  pub own-word : (j : ℕ) → j < recordWords → wordOf table top j
       ≡ getD (recordOf (kindOf x) (operandOf x) (length (inner x)) x (lastOf x)) j 0
   own-word = root-word (p .ends)

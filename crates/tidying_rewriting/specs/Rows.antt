@@ -58,59 +58,59 @@ row-of alternation f (alt r q) =
     ok-two P f l (λ h. ok-each P (f l) (λ y e. record { says = refl; fits = e; all = refl }))
 
 -- The tokens of a series over those of its parts, by how many parts there are.
-abbrev pub closed : Kind → ℕ → List Token → List Token
-closed k zero ts = leafToken 1 ∷ []
-closed k (suc zero) ts = ts
-closed k (suc (suc i)) ts = ts ++ (rowToken k (suc (suc i)) ∷ [])
+abbrev pub rejoined : Kind → ℕ → List Token → List Token
+rejoined k zero ts = leafToken 1 ∷ []
+rejoined k (suc zero) ts = ts
+rejoined k (suc (suc i)) ts = ts ++ (rowToken k (suc (suc i)) ∷ [])
 
-pub closed-join : (k : Kind) (l : List Node) → All (Not k) l
-    → closed k (length l) (concatMap skeleton l) ≡ skeleton (join k l)
+pub rejoined-join : (k : Kind) (l : List Node) → All (Not k) l
+    → rejoined k (length l) (concatMap skeleton l) ≡ skeleton (join k l)
 unfolding skeletonIn inner
-closed-join k [] h = refl
-closed-join k (r ∷ []) h = append-nil (skeleton r)
-closed-join k (r ∷ q ∷ l) h = sym (pair-own k r (link k q l) ∙ rw (row-parts k (link k q l), parts-link k q l (h .1 .0) (h .1 .1)))
+rejoined-join k [] h = refl
+rejoined-join k (r ∷ []) h = append-nil (skeleton r)
+rejoined-join k (r ∷ q ∷ l) h = sym (pair-own k r (link k q l) ∙ rw (row-parts k (link k q l), parts-link k q l (h .1 .0) (h .1 .1)))
 
--- A series's own record, `root`, is set to how many parts are left.
-pub record Closes (table table′ : List ℕ) (n root kept n′ : ℕ) : Type 0 where
-  pub by : (k : Kind) (old : ℕ) (l ts m : List Token) → length l + length ts ≡ root → (kept ≡ 0 → ts ≡ [])
-      → Says table n (l ++ (ts ++ (rowToken k old ∷ m))) → Says table′ n′ (l ++ (closed k kept ts ++ m))
+-- The own record of a series whose records end at `top` is set to how many parts are left.
+pub record Rejoins (table table′ : List ℕ) (n top kept n′ : ℕ) : Type 0 where
+  pub by : (k : Kind) (old : ℕ) (l ts m : List Token) → length l + length ts ≡ top - 1 → (kept ≡ 0 → ts ≡ [])
+      → Says table n (l ++ (ts ++ (rowToken k old ∷ m))) → Says table′ n′ (l ++ (rejoined k kept ts ++ m))
 
-module _ {table table′ : List ℕ} {n root kept : ℕ} where
-  closing : {n′ : ℕ} → ((k : Kind) (old : ℕ) (l ts m : List Token) → length (l ++ ts) ≡ root → (kept ≡ 0 → ts ≡ [])
-      → Says table n ((l ++ ts) ++ (rowToken k old ∷ m)) → Says table′ n′ (l ++ (closed k kept ts ++ m)))
-      → Closes table table′ n root kept n′
-  closing f = record { by = λ k old l ts m e z s. f k old l ts m (omega (arith, length-append l ts)) z (rw append-assoc s) }
+module _ {table table′ : List ℕ} {n top kept : ℕ} where
+  rejoining : {n′ : ℕ} → ((k : Kind) (old : ℕ) (l ts m : List Token) → length (l ++ ts) ≡ top - 1 → (kept ≡ 0 → ts ≡ [])
+      → Says table n ((l ++ ts) ++ (rowToken k old ∷ m)) → Says table′ n′ (l ++ (rejoined k kept ts ++ m)))
+      → Rejoins table table′ n top kept n′
+  rejoining f = record { by = λ k old l ts m e z s. f k old l ts m (omega (arith, length-append l ts)) z (rw append-assoc s) }
 
-  pub closes-none : kept ≡ 0 → Marked table table′ root (leafToken 1) → Closes table table′ n root kept n
-  closes-none z e = closing (λ k old l ts m low none s.
+  pub rejoins-none : kept ≡ 0 → Marked table table′ (top - 1) (leafToken 1) → Rejoins table table′ n top kept n
+  rejoins-none z e = rejoining (λ k old l ts m low none s.
       rw z (rw (none z, append-nil) at (e .says n (l ++ ts) (rowToken k old) m low s)))
 
-  pub closes-one : kept ≡ 1 → Removed table table′ n root 1 → Closes table table′ n root kept (n - 1)
-  closes-one z e = closing (λ k old l ts m low none s.
+  pub rejoins-one : kept ≡ 1 → Removed table table′ n (top - 1) 1 → Rejoins table table′ n top kept (n - 1)
+  rejoins-one z e = rejoining (λ k old l ts m low none s.
       rw (z, ← append-assoc) (e .says (l ++ ts) (rowToken k old ∷ []) m low refl s))
 
-  pub closes-more : (kept ≡ 0 → ⊥) → (kept ≡ 1 → ⊥) → Counted table table′ root kept → Closes table table′ n root kept n
-  closes-more z o e = closing (λ k old l ts m low none s.
+  pub rejoins-more : (kept ≡ 0 → ⊥) → (kept ≡ 1 → ⊥) → Counted table table′ (top - 1) kept → Rejoins table table′ n top kept n
+  rejoins-more z o e = rejoining (λ k old l ts m low none s.
       rw (more k ts kept z o, append-assoc) (rw append-assoc at (e .says n (l ++ ts) (rowToken k old) m low s)))
     where
-      more : (k : Kind) (ts : List Token) (i : ℕ) → (i ≡ 0 → ⊥) → (i ≡ 1 → ⊥) → closed k i ts ≡ ts ++ (rowToken k i ∷ [])
+      more : (k : Kind) (ts : List Token) (i : ℕ) → (i ≡ 0 → ⊥) → (i ≡ 1 → ⊥) → rejoined k i ts ≡ ts ++ (rowToken k i ∷ [])
       more k ts zero z o = absurd (z refl)
       more k ts (suc zero) z o = absurd (o refl)
       more k ts (suc (suc i)) z o = refl
 
 -- Where parts are left that are not of the series's kind, they are joined.
-pub record Closing (table : List ℕ) (n root kept : ℕ) (k : Kind) (parts : List Node) (l m : List Token) : Type 0 where
+pub record Rejoining (table : List ℕ) (n top kept : ℕ) (k : Kind) (parts : List Node) (l m : List Token) : Type 0 where
   pub old : ℕ
   pub says : Says table n (l ++ (concatMap skeleton parts ++ (rowToken k old ∷ m)))
-  pub here : length l + length (concatMap skeleton parts) ≡ root
+  pub here : length l + length (concatMap skeleton parts) ≡ top - 1
   pub counted : kept ≡ length parts
   pub apart : All (Not k) parts
 
-pub joined : {table table′ : List ℕ} {n root kept n′ : ℕ} {k : Kind} {parts : List Node} {l m : List Token}
-    → Closes table table′ n root kept n′ → Closing table n root kept k parts l m
+pub joined : {table table′ : List ℕ} {n top kept n′ : ℕ} {k : Kind} {parts : List Node} {l m : List Token}
+    → Rejoins table table′ n top kept n′ → Rejoining table n top kept k parts l m
     → Says table′ n′ (l ++ (skeleton (join k parts) ++ m))
 joined {kept = kept} {k = k} {parts = parts} {l = l} {m = m} c g =
-    rw (← closed-join k parts (g .apart), ← g .counted)
+    rw (← rejoined-join k parts (g .apart), ← g .counted)
     (c .by k (g .old) l (concatMap skeleton parts) m (g .here) (λ z. empty-tokens parts (sym (g .counted) ∙ z)) (g .says))
   where
     empty-tokens : (ps : List Node) → length ps ≡ 0 → concatMap skeleton ps ≡ []

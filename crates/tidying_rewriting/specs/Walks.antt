@@ -26,15 +26,14 @@ pub record Walked (table : List ℕ) (n end left : ℕ) (before : List ℕ) (res
   pub says : Says table n (l ++ (concatMap skeleton rest ++ ts))
 
 -- It begins below the series's own record.
-pub walk-start : {table : List ℕ} {n part w : ℕ} {before : List ℕ} {x : Node} {l m : List Token}
-    → Placed table n part before x l m → w ≡ getD table (recordWords * (part + 1 - 1) + 3) 0
-    → Walked table n part w before (inner x) l (token x ∷ m)
-walk-start {table} {n} {part} {w} {before} {x} p e =
+pub walk-start : {table : List ℕ} {n top w : ℕ} {before : List ℕ} {x : Node} {l m : List Token}
+    → Placed table n top before x l m → w ≡ getD table (recordWords * (top - 1) + 3) 0
+    → Walked table n (top - 1) w before (inner x) l (token x ∷ m)
+walk-start {table} {n} {top} {w} {before} {x} p e =
     let all : length (inner x) ≡ w = sym (e ∙ own-word p 3 (omega arith)) in
-    let under : part + 1 - 1 ≡ part = omega arith in
     record {
-      series = subst (λ (i : ℕ). Series table part i before (inner x)) all (rw under at (inside (p .ends)));
-      low = inside-here p;
+      series = subst (λ (i : ℕ). Series table (top - 1) i before (inner x)) all (inside (p .ends));
+      low = omega (arith, inside-here p);
       says = own-said p;
     }
 

@@ -1,5 +1,5 @@
-// Carrying out a law of the tidier at a part of a pattern that stands as records in a table (docs/TABLE.md), in place. The
-// part's own record is record `part` of `n`, and its other records stand right below it. Answered is how many records are left.
+// Carrying out a law of the tidier at a part of a pattern that stands as records in a table (docs/TABLE.md), in place. There are
+// `n` records, and those of the part end at record number `top`, its own the last. Answered is how many records are left.
 use table::BYTE_SET;
 use table::EMPTY;
 use table::ITEMS;
@@ -22,17 +22,18 @@ ghost use Rattle.tidying_laws.specs.Laws.{t1, t7};
 ghost use Rattle.tidying_rewriting.specs.Rewriting.{SomePlaced, SomeFitting, Rewrites, Shrinks};
 ghost use Rattle.tidying_rewriting.specs.Quantifiers.{unquantified, unnested};
 ghost use Rattle.tidying_rewriting.specs.Frames.{Cut};
-ghost use Rattle.tidying_rewriting.specs.Rows.{Closes};
+ghost use Rattle.tidying_rewriting.specs.Rows.{Rejoins};
 ghost use Rattle.tidying_rewriting.specs.Dropping.{dropping};
 
 // A part becomes one record of a kind: its other records go.
-fn shrink(table: &mut [u32], n: usize, part: usize, kind: u32) -> usize
-    requires { ⌜ SomePlaced (now table) n part ⌝ }
-    ensures { λ r. ⌜ Shrinks (now (table .entry)) (now (table .exit)) n part kind r ⌝ }
+fn shrink(table: &mut [u32], n: usize, top: usize, kind: u32) -> usize
+    requires { ⌜ SomePlaced (now table) n top ⌝ }
+    ensures { λ r. ⌜ Shrinks (now (table .entry)) (now (table .exit)) n top kind r ⌝ }
 {
-    let gone = word(table, part + 1, RECORDS) as usize - 1;
-    remove(table, n, part - gone, gone);
-    mark(table, part - gone, kind, 0, 0, [0u32; 8]);
+    let gone = word(table, top, RECORDS) as usize - 1;
+    let at = top - 1 - gone;
+    remove(table, n, at, gone);
+    mark(table, at, kind, 0, 0, [0u32; 8]);
     n - gone
 }
 
@@ -45,31 +46,31 @@ fn cut(table: &mut [u32], n: usize, at: usize, count: usize) -> usize
     n - count
 }
 
-// A series's own record, `root`, where `kept` parts are left: none is empty, and one is that part. Asked: the record is there.
-pub fn close(table: &mut [u32], n: usize, root: usize, kept: u32) -> usize
-    requires { ⌜ (root < n) × (recordWords * n ≤ length (now table)) ⌝ }
-    ensures { λ r. ⌜ Closes (now (table .entry)) (now (table .exit)) n root kept r ⌝ }
+// A series of which `kept` parts are left: none is empty, and one is that part. Asked: its own record is there.
+pub fn rejoin(table: &mut [u32], n: usize, top: usize, kept: u32) -> usize
+    requires { ⌜ (0 < top) × (top ≤ n) × (recordWords * n ≤ length (now table)) ⌝ }
+    ensures { λ r. ⌜ Rejoins (now (table .entry)) (now (table .exit)) n top kept r ⌝ }
 {
     if kept == 0 {
-        mark(table, root, EMPTY, 0, 0, [0u32; 8]);
+        mark(table, top - 1, EMPTY, 0, 0, [0u32; 8]);
         return n;
     }
     if kept == 1 {
-        remove(table, n, root, 1);
+        remove(table, n, top - 1, 1);
         return n - 1;
     }
-    set_items(table, root, kept);
+    set_items(table, top - 1, kept);
     n
 }
 
 // T1: empty items leave a sequence. The items are taken from the last one back, so that the words of those before stay.
 // Asked: a sequence stands there that has an empty item.
-pub fn fill(table: &mut [u32], n: usize, part: usize) -> usize
-    requires { ⌜ SomeFitting t1 (now table) n part ⌝ }
-    ensures { λ r. ⌜ Rewrites t1 (now (table .entry)) (now (table .exit)) n part r ⌝ }
+pub fn drop_empty(table: &mut [u32], n: usize, top: usize) -> usize
+    requires { ⌜ SomeFitting t1 (now table) n top ⌝ }
+    ensures { λ r. ⌜ Rewrites t1 (now (table .entry)) (now (table .exit)) n top r ⌝ }
 {
-    let mut left = word(table, part + 1, ITEMS);
-    let mut end = part;
+    let mut left = word(table, top, ITEMS);
+    let mut end = top - 1;
     let mut count = n;
     let mut kept: u32 = 0;
     while 0 < left {
@@ -82,49 +83,49 @@ pub fn fill(table: &mut [u32], n: usize, part: usize) -> usize
         end -= word(table, end, RECORDS) as usize;
         kept += 1;
     }
-    close(table, count, part + count - n, kept)
+    rejoin(table, count, top + count - n, kept)
 }
 
 // T2, T3 and T4: a quantifier with a minimum of 0 becomes empty, and any other its part. Asked: a quantifier stands there.
-pub fn unquantify(table: &mut [u32], n: usize, part: usize) -> usize
-    requires { ⌜ SomeFitting unquantified (now table) n part ⌝ }
-    ensures { λ r. ⌜ Rewrites unquantified (now (table .entry)) (now (table .exit)) n part r ⌝ }
+pub fn unquantify(table: &mut [u32], n: usize, top: usize) -> usize
+    requires { ⌜ SomeFitting unquantified (now table) n top ⌝ }
+    ensures { λ r. ⌜ Rewrites unquantified (now (table .entry)) (now (table .exit)) n top r ⌝ }
 {
-    if word(table, part + 1, LEAST) == 0 {
-        return shrink(table, n, part, EMPTY);
+    if word(table, top, LEAST) == 0 {
+        return shrink(table, n, top, EMPTY);
     }
-    remove(table, n, part, 1);
+    remove(table, n, top - 1, 1);
     n - 1
 }
 
 // T5 and T9: of a quantifier over another the inner one goes. Asked: two such quantifiers stand there.
-pub fn unnest(table: &mut [u32], n: usize, part: usize) -> usize
-    requires { ⌜ SomeFitting unnested (now table) n part ⌝ }
-    ensures { λ r. ⌜ Rewrites unnested (now (table .entry)) (now (table .exit)) n part r ⌝ }
+pub fn unnest(table: &mut [u32], n: usize, top: usize) -> usize
+    requires { ⌜ SomeFitting unnested (now table) n top ⌝ }
+    ensures { λ r. ⌜ Rewrites unnested (now (table .entry)) (now (table .exit)) n top r ⌝ }
 {
-    remove(table, n, part - 1, 1);
+    remove(table, n, top - 2, 1);
     n - 1
 }
 
 // T6 and T7: the leftmost alternative that a law looks for goes. Asked: an alternation that has one stands there.
-pub fn drop_alternative(table: &mut [u32], n: usize, part: usize, sought: Mark) -> usize
-    requires { ⌜ SomeFitting (dropping sought) (now table) n part ⌝ }
-    ensures { λ r. ⌜ Rewrites (dropping sought) (now (table .entry)) (now (table .exit)) n part r ⌝ }
+pub fn drop_alternative(table: &mut [u32], n: usize, top: usize, sought: Mark) -> usize
+    requires { ⌜ SomeFitting (dropping sought) (now table) n top ⌝ }
+    ensures { λ r. ⌜ Rewrites (dropping sought) (now (table .entry)) (now (table .exit)) n top r ⌝ }
 {
-    let items = word(table, part + 1, ITEMS);
-    let end = leftmost(table, part + 1, sought);
+    let items = word(table, top, ITEMS);
+    let end = leftmost(table, top, sought);
     let from = start(table, end);
     let count = cut(table, n, from, end - from);
-    close(table, count, part + count - n, items - 1)
+    rejoin(table, count, top + count - n, items - 1)
 }
 
 // T7: a sequence becomes the empty set, and the leftmost empty set of an alternation goes. Asked: T7 fits the part there.
-pub fn void(table: &mut [u32], n: usize, part: usize) -> usize
-    requires { ⌜ SomeFitting t7 (now table) n part ⌝ }
-    ensures { λ r. ⌜ Rewrites t7 (now (table .entry)) (now (table .exit)) n part r ⌝ }
+pub fn void(table: &mut [u32], n: usize, top: usize) -> usize
+    requires { ⌜ SomeFitting t7 (now table) n top ⌝ }
+    ensures { λ r. ⌜ Rewrites t7 (now (table .entry)) (now (table .exit)) n top r ⌝ }
 {
-    if word(table, part + 1, KIND) == SEQUENCE {
-        return shrink(table, n, part, BYTE_SET);
+    if word(table, top, KIND) == SEQUENCE {
+        return shrink(table, n, top, BYTE_SET);
     }
-    drop_alternative(table, n, part, Mark::Void)
+    drop_alternative(table, n, top, Mark::Void)
 }

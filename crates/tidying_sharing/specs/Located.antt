@@ -20,34 +20,31 @@ use Rattle.tidying_fitting.specs.declared.Mark.the-variants.{Alike}
 use Rattle.tidying_sharing.specs.Runs.{Behind, SomeBehind, RunEnds}
 use Rattle.tidying_sharing.specs.Shares.{Shares, shares-of, leads}
 
--- T8 fits the part whose own record is record `part`.
-pub record Sharing (table : List ℕ) (part : ℕ) (before : List ℕ) (x y : Node) : Type 0 where
-  pub ends : Ends table (part + 1) before x
+-- T8 fits the part whose records end at `top`.
+pub record Sharing (table : List ℕ) (top : ℕ) (before : List ℕ) (x y : Node) : Type 0 where
+  pub ends : Ends table top before x
   pub fits : t8 x ≡ some y
 
 -- What is asked: that there is such a part.
-pub record SomeSharing (table : List ℕ) (part : ℕ) : Type 0 where
+pub record SomeSharing (table : List ℕ) (top : ℕ) : Type 0 where
   pub before : List ℕ
   pub node : Node
   pub result : Node
-  pub sharing : Sharing table part before node result
+  pub sharing : Sharing table top before node result
 
 -- What is answered: where the run starts and ends.
-pub record Located (from stop : ℕ) (table : List ℕ) (part : ℕ) : Type 0 where
-  pub start : (before : List ℕ) (x y : Node) (s : Sharing table part before x y)
-      → from ≡ part + 1 - recordCount x + countAll (shares-of x y (s .fits) .front)
-  pub end : (before : List ℕ) (x y : Node) (s : Sharing table part before x y)
+pub record Located (from stop : ℕ) (table : List ℕ) (top : ℕ) : Type 0 where
+  pub start : (before : List ℕ) (x y : Node) (s : Sharing table top before x y)
+      → from ≡ top - recordCount x + countAll (shares-of x y (s .fits) .front)
+  pub end : (before : List ℕ) (x y : Node) (s : Sharing table top before x y)
       → stop ≡ from + countAll (leads (shares-of x y (s .fits)))
 
-module _ {table : List ℕ} {part : ℕ} {before : List ℕ} {x y : Node} (s : Sharing table part before x y) where
+module _ {table : List ℕ} {top : ℕ} {before : List ℕ} {x y : Node} (s : Sharing table top before x y) where
   abbrev k : Shares x y
   k = shares-of x y (s .fits)
 
-  series : Series table part (length (inner x)) before (k .front ++ (k .first ∷ k .second ∷ k .more))
-  series =
-      let less : part + 1 - 1 ≡ part = omega arith in
-      subst (λ (l : List Node). Series table part (length (inner x)) before l) (k .split)
-      (subst (λ (i : ℕ). Series table i (length (inner x)) before (inner x)) less (inside (s .ends)))
+  series : Series table (top - 1) (length (inner x)) before (k .front ++ (k .first ∷ k .second ∷ k .more))
+  series = subst (λ (l : List Node). Series table (top - 1) (length (inner x)) before l) (k .split) (inside (s .ends))
 
   -- The records of the part are those of its alternatives, and its own.
   all : recordCount x ≡ countAll (k .front) + (recordCount (k .first) + (recordCount (k .second) + countAll (k .more))) + 1
@@ -56,19 +53,19 @@ module _ {table : List ℕ} {part : ℕ} {before : List ℕ} {x y : Node} (s : S
   abbrev under : List ℕ
   under = before ++ concatMap records (k .front ++ (k .first ∷ []))
 
-  second-ends : Ends table (part - countAll (k .more)) under (k .second)
+  second-ends : Ends table (top - 1 - countAll (k .more)) under (k .second)
   second-ends = among-ends (k .front ++ (k .first ∷ [])) (k .second) (k .more)
-      (subst (λ (l : List Node). Series table part (length (inner x)) before l)
+      (subst (λ (l : List Node). Series table (top - 1) (length (inner x)) before l)
       (sym (append-assoc (k .front) (k .first ∷ []) (k .second ∷ k .more))) series)
 
-  first-ends : Ends table (part - countAll (k .second ∷ k .more)) (before ++ concatMap records (k .front)) (k .first)
+  first-ends : Ends table (top - 1 - countAll (k .second ∷ k .more)) (before ++ concatMap records (k .front)) (k .first)
   first-ends = among-ends (k .front) (k .first) (k .second ∷ k .more) series
 
-  module _ {second : ℕ} (t : Tells second table (part + 1) (markedEnd Alike (part + 1))) where
-    second-at : part - countAll (k .more) ≡ second
+  module _ {second : ℕ} (t : Tells second table top (markedEnd Alike top)) where
+    second-at : top - 1 - countAll (k .more) ≡ second
     second-at =
-        let told : second ≡ part + 1 - recordCount x + countAll (k .front ++ (k .first ∷ [])) + recordCount (k .second)
-        = t .by before x (s .ends) ∙ ap (endOf (part + 1 - recordCount x)) (k .found) in
+        let told : second ≡ top - recordCount x + countAll (k .front ++ (k .first ∷ [])) + recordCount (k .second)
+        = t .by before x (s .ends) ∙ ap (endOf (top - recordCount x)) (k .found) in
         omega (arith, all, count-append (k .front) (k .first ∷ []), room (s .ends) .few)
 
     pub second-there : SomePart table second
@@ -79,7 +76,7 @@ module _ {table : List ℕ} {part : ℕ} {before : List ℕ} {x y : Node} (s : S
     }
 
     module _ {first : ℕ} (u : Tells first table second (startOf second)) where
-      first-at : part - countAll (k .second ∷ k .more) ≡ first
+      first-at : top - 1 - countAll (k .second ∷ k .more) ≡ first
       unfolding second-there
       first-at =
           let told : first ≡ second - recordCount (k .second) = u .by _ (k .second) (second-there .ends) in
@@ -92,13 +89,13 @@ module _ {table : List ℕ} {part : ℕ} {before : List ℕ} {x y : Node} (s : S
         ends = subst (λ (i : ℕ). Ends table i (before ++ concatMap records (k .front)) (k .first)) first-at first-ends;
       }
 
-      the-behind : Behind table part first before (k .front) (k .first) (k .second ∷ k .more)
+      the-behind : Behind table (top - 1) first before (k .front) (k .first) (k .second ∷ k .more)
       the-behind = record {
         series = record { stands = series .stands; counted = refl; proper = series .proper };
         here = omega (arith, all, first-at, room (s .ends) .few);
       }
 
-      pub behind-there : SomeBehind table part first
+      pub behind-there : SomeBehind table (top - 1) first
       behind-there = record {
         before = before;
         front = k .front;
@@ -112,18 +109,18 @@ module _ {table : List ℕ} {part : ℕ} {before : List ℕ} {x y : Node} (s : S
         unfolding first-there
         started = v .by _ (k .first) (first-there .ends)
 
-        located-start : from ≡ part + 1 - recordCount x + countAll (k .front)
+        located-start : from ≡ top - recordCount x + countAll (k .front)
         located-start = omega (arith, started, all, first-at, room (s .ends) .few)
 
-        located-end : {stop : ℕ} → RunEnds stop table part first → stop ≡ from + countAll (leads k)
+        located-end : {stop : ℕ} → RunEnds stop table (top - 1) first → stop ≡ from + countAll (leads k)
         located-end e =
             let ended = e .by before (k .front) (k .first) (k .second ∷ k .more) the-behind in
             omega (arith, started, all, first-at, room (s .ends) .few)
 
 -- So it is found.
-pub located : {table : List ℕ} {part second first from stop : ℕ} → Tells second table (part + 1) (markedEnd Alike (part + 1))
-    → Tells first table second (startOf second) → Tells from table first (startOf first) → RunEnds stop table part first
-    → Located from stop table part
+pub located : {table : List ℕ} {top second first from stop : ℕ} → Tells second table top (markedEnd Alike top)
+    → Tells first table second (startOf second) → Tells from table first (startOf first) → RunEnds stop table (top - 1) first
+    → Located from stop table top
 located t u v e = record {
   start = λ before x y s. located-start s t u v;
   end = λ before x y s. located-end s t u v e;

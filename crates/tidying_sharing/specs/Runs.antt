@@ -17,23 +17,23 @@ use Rattle.tidying_fitting.specs.Words.{startOf}
 use Rattle.tidying_fitting.specs.Marks.{alike}
 use Rattle.tidying_sharing.specs.Leads.{opening}
 
--- Below record `part` stand the parts up to q, which ends at `first`, and more.
-pub record Behind (table : List ℕ) (part first : ℕ) (before : List ℕ) (front : List Node) (q : Node)
+-- At `top` end the parts up to q, which ends at `first`, and more.
+pub record Behind (table : List ℕ) (top first : ℕ) (before : List ℕ) (front : List Node) (q : Node)
     (more : List Node) : Type 0 where
-  pub series : Series table part (length (front ++ (q ∷ more))) before (front ++ (q ∷ more))
-  pub here : part ≡ first + countAll more
+  pub series : Series table top (length (front ++ (q ∷ more))) before (front ++ (q ∷ more))
+  pub here : top ≡ first + countAll more
 
 -- What is asked: that there is such a series.
-pub record SomeBehind (table : List ℕ) (part first : ℕ) : Type 0 where
+pub record SomeBehind (table : List ℕ) (top first : ℕ) : Type 0 where
   pub before : List ℕ
   pub front : List Node
   pub node : Node
   pub more : List Node
-  pub behind : Behind table part first before front node more
+  pub behind : Behind table top first before front node more
 
 -- What is answered: where the parts behind q that begin as q does end.
-pub record RunEnds (stop : ℕ) (table : List ℕ) (part first : ℕ) : Type 0 where
-  pub by : (before : List ℕ) (front : List Node) (q : Node) (more : List Node) → Behind table part first before front q more
+pub record RunEnds (stop : ℕ) (table : List ℕ) (top first : ℕ) : Type 0 where
+  pub by : (before : List ℕ) (front : List Node) (q : Node) (more : List Node) → Behind table top first before front q more
       → stop ≡ first + countAll (opening (alike q) more)
 
 -- The walk has come to `end`: the run among the parts that it passed ends at `stop`.
@@ -46,11 +46,11 @@ pub record Back (table : List ℕ) (first end stop : ℕ) (before : List ℕ) (f
   pub best : stop ≡ end + countAll (opening (alike q) seen)
 
 -- What the loop keeps, whatever the series is.
-pub record Backs (table : List ℕ) (part first end stop : ℕ) : Type 0 where
-  pub by : (before : List ℕ) (front : List Node) (q : Node) (more : List Node) → Behind table part first before front q more
+pub record Backs (table : List ℕ) (top first end stop : ℕ) : Type 0 where
+  pub by : (before : List ℕ) (front : List Node) (q : Node) (more : List Node) → Behind table top first before front q more
       → Back table first end stop before front q more
 
-pub backs-start : {table : List ℕ} {part first : ℕ} → Backs table part first part part
+pub backs-start : {table : List ℕ} {top first : ℕ} → Backs table top first top top
 unfolding opening
 backs-start = record {
   by = λ before front q more b. record { rest = more; seen = []; split = sym (append-nil more); behind = b; best = omega arith };
@@ -139,14 +139,14 @@ module _ {table : List ℕ} {first end stop : ℕ} {before : List ℕ} {front : 
           best = rw one (omega arith);
         })
 
-pub one-back : {table : List ℕ} {part first end stop : ℕ} (s : SomeBehind table part first) → Backs table part first end stop
+pub one-back : {table : List ℕ} {top first end stop : ℕ} (s : SomeBehind table top first) → Backs table top first end stop
     → Back table first end stop (s .before) (s .front) (s .node) (s .more)
 one-back s h = h .by (s .before) (s .front) (s .node) (s .more) (s .behind)
 
 -- In the end it has come to the first part.
-pub backs-end : {table : List ℕ} {part first end stop : ℕ} → end ≤ first → Backs table part first end stop
-    → RunEnds stop table part first
-backs-end {table} {part} {first} {end} {stop} h w = record { by = λ before front q more b. go (w .by before front q more b) }
+pub backs-end : {table : List ℕ} {top first end stop : ℕ} → end ≤ first → Backs table top first end stop
+    → RunEnds stop table top first
+backs-end {table} {top} {first} {end} {stop} h w = record { by = λ before front q more b. go (w .by before front q more b) }
   where
     none : (l : List Node) → countAll l ≤ 0 → l ≡ []
     none [] z = refl

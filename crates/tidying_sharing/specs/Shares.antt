@@ -18,7 +18,7 @@ use Rattle.tidying_fitting.specs.Marks.{beginsWith, alike, follows, marks, begi
 use Rattle.tidying_fitting.specs.declared.Mark.the-variants.{Alike}
 use Rattle.tidying_shapes.specs.Skeleton.{Token, token, rowToken, skeletonIn, skeleton, glue-row, glue-in, glue-width}
 use Rattle.tidying_rewriting.specs.Rewriting.{ok-some}
-use Rattle.tidying_rewriting.specs.Rows.{RowOf, row-of, closed, closed-join, skeletons-append}
+use Rattle.tidying_rewriting.specs.Rows.{RowOf, row-of, rejoined, rejoined-join, skeletons-append}
 use Rattle.tidying_sharing.specs.Leads.{left, opening, RunOf, run-of, glued, sharing, SharedAt, share-at, is-some}
 use Rattle.tidying_sharing.specs.Trims.{trimmed, lead-tokens}
 use Rattle.tidying_sharing.specs.Wraps.{setToken}
@@ -145,10 +145,10 @@ ending zero m = m
 ending (suc zero) m = m
 ending (suc (suc i)) m = rowToken alternation (suc (suc i)) ∷ m
 
-pub closed-ending : (kept : ℕ) (ts m : List Token) → 1 ≤ kept → closed alternation kept ts ++ m ≡ ts ++ ending kept m
-closed-ending zero ts m h = absurd (omega arith)
-closed-ending (suc zero) ts m h = refl
-closed-ending (suc (suc i)) ts m h = append-assoc ts (rowToken alternation (suc (suc i)) ∷ []) m
+pub rejoined-ending : (kept : ℕ) (ts m : List Token) → 1 ≤ kept → rejoined alternation kept ts ++ m ≡ ts ++ ending kept m
+rejoined-ending zero ts m h = absurd (omega arith)
+rejoined-ending (suc zero) ts m h = refl
+rejoined-ending (suc (suc i)) ts m h = append-assoc ts (rowToken alternation (suc (suc i)) ∷ []) m
 
 -- The result: the tokens in front, the set, what is left of the run, its alternation and its sequence, and the tokens after.
 module _ {x y : Node} (k : Shares x y) (apart : All (Not alternation) (inner x)) where
@@ -185,8 +185,8 @@ module _ {x y : Node} (k : Shares x y) (apart : All (Not alternation) (inner x))
       = skeletons-append (k .front) (wrap ∷ after k)
       ∙ ap (λ ts. front ++ (ts ++ behind)) (wrapped (k .set) (rests k) (two-rests k)) in
       ap (λ z. skeleton z ++ m) (sym joined-row)
-      ∙ ap (λ ts. ts ++ m) (sym (closed-join alternation series row-apart))
-      ∙ closed-ending (length series) (concatMap skeleton series) m (omega (arith, length-append (k .front) (wrap ∷ after k)))
+      ∙ ap (λ ts. ts ++ m) (sym (rejoined-join alternation series row-apart))
+      ∙ rejoined-ending (length series) (concatMap skeleton series) m (omega (arith, length-append (k .front) (wrap ∷ after k)))
       ∙ ap₂ (λ ts n. ts ++ ending n m) tokens (row-length ∙ sym e)
       ∙ regroup front some rows behind (ending kept m)
     where

@@ -7,7 +7,8 @@ use lib.ListN.{length, getD, take, drop, length-append}
 use Rattle.meaning.specs.Node.{Node, Proper}
 use Rattle.meaning.specs.Flat.{Kind.sequence, Kind.alternation, Not}
 use Rattle.meaning.specs.Results.{concatMap}
-use Rattle.table.specs.Table.{recordWords}
+use Rattle.table.specs.Table.{recordWords, setWord}
+use Rattle.meaning.specs.Limits.{setWords}
 use Rattle.meaning.specs.All.{All, all-left, all-right}
 use Rattle.table.specs.Laws.{inner, inner-proper, parts-flat, countAll, count-append, inner-count}
 use Rattle.tidying_laws.specs.Laws.{t8}
@@ -21,13 +22,13 @@ use Rattle.tidying_shapes.specs.Laws.{says-length, says-at}
 use Rattle.tidying_shapes.specs.Told.{skeleton-count}
 use Rattle.tidying_rewriting.specs.Rewriting.{Fitting, SomeFitting, Rewrites, own-word, count}
 use Rattle.tidying_rewriting.specs.Own.{own-said, inside-here}
-use Rattle.tidying_rewriting.specs.Rows.{skeletons-count, skeletons-append, Closes}
+use Rattle.tidying_rewriting.specs.Rows.{skeletons-count, skeletons-append, Rejoins}
 use Rattle.tidying_sharing.specs.Leads.{Lead, Lead.single, Lead.leading, opening}
 use Rattle.tidying_sharing.specs.Trims.{trimmed, lead-tokens}
 use Rattle.tidying_sharing.specs.Wraps.{setToken, Wraps}
 use Rattle.tidying_sharing.specs.Shortening.{wordLimit, widths, Running, SomeRunning, Shortens}
 use Rattle.tidying_sharing.specs.Shares.{Shares, shares-of, leads, rests, after, the-run, two-leads, split-run}
-use Rattle.tidying_sharing.specs.Shares.{ending, closed-ending, result-tokens}
+use Rattle.tidying_sharing.specs.Shares.{ending, rejoined-ending, result-tokens}
 use Rattle.tidying_sharing.specs.Located.{Sharing, SomeSharing, Located}
 
 -- The first token of an alternative that begins with a set is the set's.
@@ -36,12 +37,17 @@ unfolding skeletonIn inner
 set-first single = ([], refl)
 set-first {s} (leading r) = (_, lead-tokens s r)
 
+-- What is there once alternatives are trimmed: the own record of the alternation, and the alternatives that it had.
+abbrev pub Room : List ℕ → List ℕ → ℕ → ℕ → ℕ → ℕ → ℕ → ℕ → Type 0
+Room table table₁ n top stop n₁ gone items = (n < top + n₁) × (top + n₁ - n ≤ n₁) × (recordWords * n₁ ≤ length table₁)
+    × (2 ≤ gone) × (gone ≤ items) × (n ≤ stop + n₁) × (stop ≤ n) × (recordWords * n ≤ length table)
+
 regroup : (a b c d : List Token) → (a ++ (b ++ c)) ++ d ≡ a ++ (b ++ (c ++ d))
 regroup a b c d = simp append-assoc
 
-module _ {table : List ℕ} {n part : ℕ} {before : List ℕ} {x y : Node} {l m : List Token}
-    (fit : Fitting t8 table n part before x y l m) where
-  abbrev fit-sharing : Sharing table part before x y
+module _ {table : List ℕ} {n top : ℕ} {before : List ℕ} {x y : Node} {l m : List Token}
+    (fit : Fitting t8 table n top before x y l m) where
+  abbrev fit-sharing : Sharing table top before x y
   fit-sharing = record { ends = fit .placed .ends; fits = fit .fits }
 
   abbrev k : Shares x y
@@ -80,7 +86,7 @@ module _ {table : List ℕ} {n part : ℕ} {before : List ℕ} {x y : Node} {l m
       ∙ ap (λ ts. front ++ ts) (skeletons-append (leads k) (after k))
 
   -- The alternatives' tokens end where the alternation's own stands.
-  all : length l + (length front + (length whole + length behind)) ≡ part
+  all : length l + (length front + (length whole + length behind)) + 1 ≡ top
   all = omega (
     arith,
     inside-here (fit .placed),
@@ -93,10 +99,10 @@ module _ {table : List ℕ} {n part : ℕ} {before : List ℕ} {x y : Node} {l m
   said = subst (λ (ts : List Token). Says table n (l ++ ts)) (regroup front whole behind (token x ∷ m))
       (rw tokens at (own-said (fit .placed)))
 
-  count-all : n ≡ part + 1 + length m
+  count-all : n ≡ top + length m
   count-all = omega (arith, count (fit .placed), fit .placed .here)
 
-  module _ {from stop : ℕ} (at : Located from stop table part) where
+  module _ {from stop : ℕ} (at : Located from stop table top) where
     starts : length l + length front ≡ from
     starts =
         let told = at .start before x y fit-sharing in
@@ -107,12 +113,12 @@ module _ {table : List ℕ} {n part : ℕ} {before : List ℕ} {x y : Node} {l m
 
     series : Series table stop (length (k .front ++ leads k)) before (k .front ++ leads k)
     series =
-        let under : part + 1 - 1 - countAll (after k) ≡ stop = omega (arith, starts, stops, all, behind-count) in
+        let under : top - 1 - countAll (after k) ≡ stop = omega (arith, starts, stops, all, behind-count) in
         let first : List Node = k .front ++ leads k in
         let parts : inner x ≡ first ++ after k = split-run k ∙ sym (append-assoc (k .front) (leads k) (after k)) in
         let items : ℕ = length (inner x) in
         subst (λ (i : ℕ). Series table i (length first) before first) under (front-series {items = items} first (after k)
-        (subst (λ (ps : List Node). Series table (part + 1 - 1) items before ps) parts (inside (fit .placed .ends))))
+        (subst (λ (ps : List Node). Series table (top - 1) items before ps) parts (inside (fit .placed .ends))))
 
     the-running : Running table n from stop before (k .set) (k .front) (leads k) l (behind ++ (token x ∷ m))
     the-running = record {
@@ -125,7 +131,7 @@ module _ {table : List ℕ} {n part : ℕ} {before : List ℕ} {x y : Node} {l m
       all = the-run k .all;
     }
 
-    pub running-there : getD table (recordWords * (part + 1 - 1) + 2) 0 < wordLimit → SomeRunning table n from stop
+    pub running-there : getD table (recordWords * (top - 1) + 2) 0 < wordLimit → SomeRunning table n from stop
     running-there h = record {
       before = before;
       set = k .set;
@@ -147,7 +153,7 @@ module _ {table : List ℕ} {n part : ℕ} {before : List ℕ} {x y : Node} {l m
     }
 
     -- The run begins with the set.
-    pub set-there : (recordWords * (from + 1) ≤ length table) × (take 8 (drop (recordWords * from + 8) table) ≡ k .set)
+    pub set-there : (recordWords * (from + 1) ≤ length table) × (take setWords (drop (recordWords * from + setWord) table) ≡ k .set)
     set-there =
         let (ts, e) = set-first (the-run k .all .0) in
         let tail : List Token = behind ++ (token x ∷ m) in
@@ -178,7 +184,7 @@ module _ {table : List ℕ} {n part : ℕ} {before : List ℕ} {x y : Node} {l m
         length-append behind (token x ∷ m),
       )
 
-      module _ {items : ℕ} (i : items ≡ getD table (recordWords * (part + 1 - 1) + 3) 0) where
+      module _ {items : ℕ} (i : items ≡ getD table (recordWords * (top - 1) + 3) 0) where
         all-items : items ≡ length (k .front) + (length (leads k) + length (after k))
         all-items = omega (
           arith,
@@ -188,10 +194,8 @@ module _ {table : List ℕ} {n part : ℕ} {before : List ℕ} {x y : Node} {l m
           length-append (leads k) (after k),
         )
 
-        -- The own record of the alternation, and the alternatives that it has then.
-        pub close-room : (n ≤ part + n₁) × (part + n₁ - n < n₁) × (recordWords * n₁ ≤ length table₁)
-            × (2 ≤ gone) × (gone ≤ items) × (n ≤ stop + n₁) × (stop ≤ n) × (recordWords * n ≤ length table)
-        close-room = omega (
+        pub rejoin-room : Room table table₁ n top stop n₁ gone items
+        rejoin-room = omega (
           arith,
           short-count,
           count-all,
@@ -215,20 +219,20 @@ module _ {table : List ℕ} {n part : ℕ} {before : List ℕ} {x y : Node} {l m
             ++ (rowToken alternation (widths (rests k)) ∷ rowToken sequence 2 ∷ (behind ++ ending (items - gone + 1) m))))
         result = result-tokens k apart (items - gone + 1) m counted
 
-        module _ {table₂ : List ℕ} {n₂ : ℕ} (cl : Closes table₁ table₂ n₁ (part + n₁ - n) (items - gone + 1) n₂) where
-          closed-said : Says table₂ n₂ ((l ++ front) ++ (rest ++ (behind ++ ending (items - gone + 1) m)))
-          closed-said =
+        module _ {table₂ : List ℕ} {n₂ : ℕ} (cl : Rejoins table₁ table₂ n₁ (top + n₁ - n) (items - gone + 1) n₂) where
+          rejoined-said : Says table₂ n₂ ((l ++ front) ++ (rest ++ (behind ++ ending (items - gone + 1) m)))
+          rejoined-said =
               let parts : List Token = front ++ (rest ++ behind) in
               let kept : ℕ = items - gone + 1 in
               let own : Token = rowToken alternation (length (inner x)) in
               let ready : Says table₁ n₁ (l ++ (parts ++ (own ∷ m)))
               = subst (λ (ts : List Token). Says table₁ n₁ (l ++ ts)) (sym (regroup front rest behind (own ∷ m)))
               (subst (λ (t : Token). Says table₁ n₁ (l ++ (front ++ (rest ++ (behind ++ (t ∷ m)))))) (k .says) (shortened .0)) in
-              let low : length l + length parts ≡ part + n₁ - n
+              let low : length l + length parts ≡ top + n₁ - n - 1
               = omega (arith, short-count, count-all, length-append front (rest ++ behind), length-append rest behind) in
               let done = cl .by alternation (length (inner x)) l parts m low (λ z. absurd (omega arith)) ready in
               rw (append-assoc l front) (subst (λ (ts : List Token). Says table₂ n₂ (l ++ ts))
-              (closed-ending kept parts m (omega arith) ∙ regroup front rest behind (ending kept m)) done)
+              (rejoined-ending kept parts m (omega arith) ∙ regroup front rest behind (ending kept m)) done)
 
           -- Room for three records more is that of the result.
           pub wrap-room : (from ≤ stop + n₁ - n) × (stop + n₁ - n ≤ n₂) × (recordWords * (n₂ + 3) ≤ length table)
@@ -243,7 +247,7 @@ module _ {table : List ℕ} {n part : ℕ} {before : List ℕ} {x y : Node} {l m
                 all,
                 starts,
                 stops,
-                says-length closed-said,
+                says-length rejoined-said,
                 length-append (l ++ front) (rest ++ (behind ++ last)),
                 length-append l front,
                 length-append rest (behind ++ last),
@@ -267,11 +271,11 @@ module _ {table : List ℕ} {n part : ℕ} {before : List ℕ} {x y : Node} {l m
               let done : Says table₃ n₃ (told (k .set) (widths (rests k)))
               = subst (λ (parts : ℕ). Says table₃ n₃ (told (k .set) parts)) (shortened .2)
               (subst (λ (bytes : List ℕ). Says table₃ n₃ (told bytes width)) e
-              (w .by (l ++ front) rest (behind ++ last) low high closed-said)) in
+              (w .by (l ++ front) rest (behind ++ last) low high rejoined-said)) in
               rw (result, ← append-assoc) done
 
 -- So it is carried out.
-pub some-sharing : {table : List ℕ} {n part : ℕ} → SomeFitting t8 table n part → SomeSharing table part
+pub some-sharing : {table : List ℕ} {n top : ℕ} → SomeFitting t8 table n top → SomeSharing table top
 some-sharing s = record {
   before = s .before;
   node = s .node;
@@ -279,11 +283,11 @@ some-sharing s = record {
   sharing = fit-sharing (s .fitting);
 }
 
-pub shares : {table table₁ table₂ table₃ set : List ℕ} {n part from stop n₁ gone width items n₂ n₃ : ℕ}
-    → Located from stop table part → set ≡ take 8 (drop (recordWords * from + 8) table)
-    → Shortens table table₁ n from stop n₁ gone width → items ≡ getD table (recordWords * (part + 1 - 1) + 3) 0
-    → Closes table₁ table₂ n₁ (part + n₁ - n) (items - gone + 1) n₂
-    → Wraps table₂ table₃ n₂ from (stop + n₁ - n) width set n₃ → Rewrites t8 table table₃ n part n₃
-shares at e sh i cl w = record {
-  by = λ before x y l m fit. wrapped-said fit at sh i cl (e ∙ set-there fit at .1) w;
-}
+pub shares : {table table₁ table₂ table₃ set : List ℕ} {n top from stop n₁ gone width items n₂ n₃ : ℕ}
+    → Located from stop table top → set ≡ take setWords (drop (recordWords * (from + 1 - 1) + setWord) table)
+    → Shortens table table₁ n from stop n₁ gone width → items ≡ getD table (recordWords * (top - 1) + 3) 0
+    → Rejoins table₁ table₂ n₁ (top + n₁ - n) (items - gone + 1) n₂
+    → Wraps table₂ table₃ n₂ from (stop + n₁ - n) width set n₃ → Rewrites t8 table table₃ n top n₃
+shares {from = from} at e sh i cl w =
+    let same : from + 1 - 1 ≡ from = omega arith in
+    record { by = λ before x y l m fit. wrapped-said fit at sh i cl (rw same at e ∙ set-there fit at .1) w }

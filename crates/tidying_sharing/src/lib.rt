@@ -13,7 +13,7 @@ use tidying_fitting::Mark;
 use tidying_fitting::series::begins_alike;
 use tidying_fitting::series::leftmost;
 use tidying_fitting::start;
-use tidying_rewriting::close;
+use tidying_rewriting::rejoin;
 use tidying_shapes::insert;
 use tidying_shapes::mark;
 use tidying_shapes::remove;
@@ -90,14 +90,14 @@ fn trim_at(table: &mut [u32], n: usize, at: usize, end: usize) -> Trimmed
     }
 }
 
-// Where those parts end that follow the one that ends at `first` and begin as it does. Asked: the parts of a series end at `part`,
-// and one of them at `first`.
-fn run_end(table: &[u32], part: usize, first: usize) -> usize
-    requires { ⌜ SomeBehind (now table) part first ⌝ }
-    ensures { λ r. ⌜ RunEnds r (now (table .entry)) part first ⌝ }
+// Where those parts end that follow the one that ends at `first` and begin as it does. Asked: the parts of a series end at
+// `top`, and one of them at `first`.
+fn run_end(table: &[u32], top: usize, first: usize) -> usize
+    requires { ⌜ SomeBehind (now table) top first ⌝ }
+    ensures { λ r. ⌜ RunEnds r (now (table .entry)) top first ⌝ }
 {
-    let mut end = part;
-    let mut stop = part;
+    let mut end = top;
+    let mut stop = top;
     while first < end {
         let alike = begins_alike(table, first, end);
         end = start(table, end);
@@ -109,18 +109,18 @@ fn run_end(table: &[u32], part: usize, first: usize) -> usize
     stop
 }
 
-// The leftmost run of the part whose own record is `part`: the leftmost alternative that begins as its left neighbour does is
-// the run's second. Asked: T8 fits the part.
-fn find(table: &[u32], part: usize) -> Run
-    requires { ⌜ SomeSharing (now table) part ⌝ }
-    ensures { λ r. ⌜ Located (r .from) (r .stop) (now (table .entry)) part ⌝ }
+// The leftmost run of the part that ends at `top`: the leftmost alternative that begins as its left neighbour does is the run's
+// second. Asked: T8 fits the part.
+fn leftmost_run(table: &[u32], top: usize) -> Run
+    requires { ⌜ SomeSharing (now table) top ⌝ }
+    ensures { λ r. ⌜ Located (r .from) (r .stop) (now (table .entry)) top ⌝ }
 {
-    let second = leftmost(table, part + 1, Mark::Alike);
+    let second = leftmost(table, top, Mark::Alike);
     let first = start(table, second);
     let from = start(table, first);
     Run {
         from,
-        stop: run_end(table, part, first),
+        stop: run_end(table, top - 1, first),
     }
 }
 
@@ -163,18 +163,18 @@ fn wrap(table: &mut [u32], n: usize, start: usize, end: usize, parts: u32, set: 
     n + 3
 }
 
-// T8 at the part whose own record is record `part` of `n`. Answers how many records are left. The alternation's own record is
+// T8 at the part that ends at record `top` of `n`. Answers how many records are left. The alternation's own record is
 // set before the run is wrapped, so that there is room. Asked: T8 fits the part, and there is room for the result.
-pub fn share(table: &mut [u32], n: usize, part: usize) -> usize
-    requires { ⌜ SomeFitting t8 (now table) n part ⌝ }
-    ensures { λ r. ⌜ Rewrites t8 (now (table .entry)) (now (table .exit)) n part r ⌝ }
+pub fn share(table: &mut [u32], n: usize, top: usize) -> usize
+    requires { ⌜ SomeFitting t8 (now table) n top ⌝ }
+    ensures { λ r. ⌜ Rewrites t8 (now (table .entry)) (now (table .exit)) n top r ⌝ }
 {
-    let items = word(table, part + 1, ITEMS);
-    let run = find(table, part);
+    let items = word(table, top, ITEMS);
+    let run = leftmost_run(table, top);
     let from = run.from;
     let stop = run.stop;
     let set = table::last_words(table, from + 1);
     let left = shorten(table, n, from, stop);
-    let count = close(table, left.n, part + left.n - n, items - left.trimmed + 1);
+    let count = rejoin(table, left.n, top + left.n - n, items - left.trimmed + 1);
     wrap(table, count, from, stop + left.n - n, left.parts, set)
 }

@@ -3,46 +3,35 @@ use borrow.Author.Needs.{needs}
 use mathlib.Core.Path.{ap}
 use Prim.Native.Nat.{_-_}
 use native.Mathlib.Omega.{arith}
+use Rattle.tidying_rewriting.specs.Rewriting.{within}
 use Rattle.tidying_rewriting.specs.Own.{block, shrunk}
 use Rattle.tidying_rewriting.proofs.shrink.Statement.{statement}
 use Rattle.tidying_rewriting.proofs.shrink.Tie as tie
 
-add-word : tie.Need-add-word
-add-word c = search needs
-
 word-requires : tie.Need-word-requires
-word-requires c κs = search needs
-
-abbrev start : tie.After-word → tie.Start
-start c = c .before .before .before
-
-cast-gone : tie.Need-cast-gone
-cast-gone c = search needs
+word-requires c κs = omega (arith, within (c .before .before .pre .placed))
 
 sub-gone : tie.Need-sub-gone
-sub-gone c = omega (arith, block (start c .pre .placed) (c .word .ensures))
+sub-gone c = omega (arith, block (c .before .before .before .pre .placed) (c .word .ensures))
 
-sub-remove : tie.Need-sub-remove
-sub-remove c = omega (arith, block (start (c .before) .pre .placed) (c .before .word .ensures))
+sub-at : tie.Need-sub-at
+sub-at c = omega (arith, block (c .before .before .before .pre .placed) (c .word .ensures))
+
+sub-at-2 : tie.Need-sub-at-2
+sub-at-2 c = omega (arith, block (c .before .before .before .pre .placed) (c .word .ensures))
 
 remove-requires : tie.Need-remove-requires
-remove-requires c κs = omega (arith, block (start (c .before) .pre .placed) (c .before .word .ensures))
-
-sub-mark : tie.Need-sub-mark
-sub-mark c =
-    let first = c .before .before .before .before .before in
-    omega (arith, block (start first .pre .placed) (first .word .ensures))
+remove-requires c κs = omega (arith, block (c .before .before .before .before .pre .placed) (c .before .word .ensures))
 
 mark-requires : tie.Need-mark-requires
-mark-requires c κs = search needs
+mark-requires c κs =
+    let word = c .before .before .before .before .before in
+    omega (arith, block (word .before .before .before .pre .placed) (word .word .ensures))
 
 sub-result : tie.Need-sub-result
 sub-result c =
-    let first = c .before .before .before .before .before .before .before .before in
-    omega (arith, block (start first .pre .placed) (first .word .ensures))
-
-same-length : tie.Need-same-length
-same-length c = search needs
+    let word = c .before .before .before .before .before .before .before .before in
+    omega (arith, block (word .before .before .before .pre .placed) (word .word .ensures))
 
 returns : tie.Need-returns
 returns c =
@@ -59,14 +48,13 @@ pub shrink-spec : {M : Type 1} → statement M
 shrink-spec =
     tie.close
     (tie.spec
-    add-word
     word-requires
-    cast-gone
+    (λ c. search needs)
     sub-gone
-    sub-remove
+    sub-at
+    sub-at-2
     remove-requires
-    sub-mark
     mark-requires
     sub-result
-    same-length
+    (λ c. search needs)
     returns)

@@ -6,10 +6,10 @@ use Rattle.tidying_sharing.proofs.run_end.Statement.{statement}
 use Rattle.tidying_sharing.proofs.run_end.Tie as tie
 
 abbrev Inv-loop : tie.InvT-loop
-Inv-loop table part first end₀ stop₀ end stop = Backs table part first end stop
+Inv-loop table top first end₀ stop₀ end stop = Backs table top first end stop
 
 abbrev μ-loop : tie.MeasureT-loop
-μ-loop table part first end₀ stop₀ end stop = end
+μ-loop table top first end₀ stop₀ end stop = end
 
 loop-holds : tie.Need-loop-holds Inv-loop μ-loop
 loop-holds c = backs-start

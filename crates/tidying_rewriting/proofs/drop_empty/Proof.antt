@@ -8,21 +8,21 @@ use Rattle.table.specs.Table.{recordWords}
 use Rattle.tidying_rewriting.specs.Rewriting.{within}
 use Rattle.tidying_rewriting.specs.Filling.{Fills, one-filling, fills-all, filling-start, filling-gone, filling-kept}
 use Rattle.tidying_rewriting.specs.Filling.{item-there, item-few, filled-room}
-use Rattle.tidying_rewriting.proofs.fill.Statement.{statement}
-use Rattle.tidying_rewriting.proofs.fill.Tie as tie
+use Rattle.tidying_rewriting.proofs.drop_empty.Statement.{statement}
+use Rattle.tidying_rewriting.proofs.drop_empty.Tie as tie
 
 abbrev Inv-loop : tie.InvT-loop
-Inv-loop table₀ n part left₀ end₀ count₀ kept₀ table left end count kept =
-    Fills table₀ n part table count end left kept × (length table ≡ length table₀) × (kept + left ≤ left₀)
+Inv-loop table₀ n top left₀ end₀ count₀ kept₀ table left end count kept =
+    Fills table₀ n top table count end left kept × (length table ≡ length table₀) × (kept + left ≤ left₀)
 
 abbrev μ-loop : tie.MeasureT-loop
-μ-loop table₀ n part left₀ end₀ count₀ kept₀ table left end count kept = left
-
-add-word : tie.Need-add-word Inv-loop μ-loop
-add-word c = omega (arith, within (c .before .before .pre .fitting .placed))
+μ-loop table₀ n top left₀ end₀ count₀ kept₀ table left end count kept = left
 
 word-requires : tie.Need-word-requires Inv-loop μ-loop
 word-requires c κs = omega (arith, within (c .before .before .pre .fitting .placed))
+
+sub-end : tie.Need-sub-end Inv-loop μ-loop
+sub-end c = omega (arith, within (c .before .before .before .pre .fitting .placed))
 
 loop-holds : tie.Need-loop-holds Inv-loop μ-loop
 loop-holds c = (
@@ -42,9 +42,9 @@ there : (c : tie.In-loop Inv-loop μ-loop) → let at = c .before .loop in
     (0 < at .end) × (at .end ≤ at .count) × (recordWords * at .count ≤ length (at .table))
 there c = item-there (one-filling (start (c .before) .pre) (c .before .loop .inv .0)) (going c)
 
--- After the last turn the series's own record is there.
+-- After the last turn the sequence's own record is there.
 room : (c : tie.After-loop Inv-loop μ-loop) → let at = c .before .loop in let args = start (c .before) .args in
-    (args .n ≤ args .part + at .count) × (args .part + at .count - args .n < at .count)
+    (args .n < args .top + at .count) × (args .top + at .count - args .n ≤ at .count)
     × (recordWords * at .count ≤ length (at .table))
 room c = let s = start (c .before) .pre in filled-room (s .fitting) (one-filling s (c .before .loop .inv .0))
 
@@ -54,8 +54,8 @@ sub-left c = omega arith
 word-requires-2 : tie.Need-word-requires-2 Inv-loop μ-loop
 word-requires-2 c κs = omega (arith, there (c .before))
 
-sub-end : tie.Need-sub-end Inv-loop μ-loop
-sub-end c = omega (arith, there (c .before .before .before))
+sub-end-2 : tie.Need-sub-end-2 Inv-loop μ-loop
+sub-end-2 c = omega (arith, there (c .before .before .before))
 
 cut-requires : tie.Need-cut-requires Inv-loop μ-loop
 cut-requires c κs = omega (arith, there (c .before .before .before .before))
@@ -80,16 +80,10 @@ loop-again c =
 word-requires-3 : tie.Need-word-requires-3 Inv-loop μ-loop
 word-requires-3 c κs = omega (arith, there (c .before .before .before .before))
 
-cast-end : tie.Need-cast-end Inv-loop μ-loop
-cast-end c = search needs
-
-sub-end-2 : tie.Need-sub-end-2 Inv-loop μ-loop
-sub-end-2 c =
+sub-end-3 : tie.Need-sub-end-3 Inv-loop μ-loop
+sub-end-3 c =
     let turn = c .before .before .before .before .before in
     item-few (one-filling (start (turn .before) .pre) (turn .before .loop .inv .0)) (going turn) (c .word3 .ensures)
-
-add-kept : tie.Need-add-kept Inv-loop μ-loop
-add-kept c = search needs
 
 loop-less-2 : tie.Need-loop-less-2 Inv-loop μ-loop
 loop-less-2 c = omega arith
@@ -107,46 +101,43 @@ loop-again-2 c =
       omega arith,
     )
 
-add-close : tie.Need-add-close Inv-loop μ-loop
-add-close c = omega (arith, within (start (c .before .before) .pre .fitting .placed), room (c .before))
+add-rejoin : tie.Need-add-rejoin Inv-loop μ-loop
+add-rejoin c = omega (arith, within (start (c .before .before) .pre .fitting .placed), room (c .before))
 
-sub-close : tie.Need-sub-close Inv-loop μ-loop
-sub-close c = room (c .before) .0
+sub-rejoin : tie.Need-sub-rejoin Inv-loop μ-loop
+sub-rejoin c = omega (arith, room (c .before))
 
-close-requires : tie.Need-close-requires Inv-loop μ-loop
-close-requires c κs = (room (c .before) .1, room (c .before) .2)
-
-same-length : tie.Need-same-length Inv-loop μ-loop
-same-length c = search needs
+rejoin-requires : tie.Need-rejoin-requires Inv-loop μ-loop
+rejoin-requires c κs = omega (arith, room (c .before))
 
 returns : tie.Need-returns Inv-loop μ-loop
 returns c =
     let over = c .before .before .before .before in
-    fills-all (over .loop-test .left) (over .before .loop .inv .0) (c .before .before .close .ensures)
+    fills-all (over .loop-test .left) (over .before .loop .inv .0) (c .before .before .rejoin .ensures)
 
-pub fill-spec : {M : Type 1} → statement M
-fill-spec =
+pub drop-empty-spec : {M : Type 1} → statement M
+drop-empty-spec =
     tie.close
     (tie.spec
     Inv-loop
     μ-loop
-    add-word
     word-requires
+    sub-end
     loop-holds
     sub-left
     word-requires-2
-    sub-end
+    sub-end-2
     cut-requires
     loop-less
     loop-again
     word-requires-3
-    cast-end
-    sub-end-2
-    add-kept
+    (λ c. search needs)
+    sub-end-3
+    (λ c. search needs)
     loop-less-2
     loop-again-2
-    add-close
-    sub-close
-    close-requires
-    same-length
+    add-rejoin
+    sub-rejoin
+    rejoin-requires
+    (λ c. search needs)
     returns)
