@@ -76,12 +76,10 @@ filled-limited (r ∷ l) h = go (isEmpty r) (filled-limited l (h .1))
     go false g = (h .0, g)
 
 t1-kept : Limits t1
-unfolding t1
 t1-kept = on-parts sequence _
     (λ l h. ok-when LimitedAll (any isEmpty l) (ofItems (filled l)) (λ e. limited-join sequence (filled l) (filled-limited l h)))
 
 t2-kept : Limits t2
-unfolding t2
 t2-kept = on-many _ (λ n e lazy r h.
     let once : Bool = counts n e 1 (some 0) && groupFree r in
     let never : Bool = counts n e 0 (some 0) && groupFree r in
@@ -89,7 +87,6 @@ t2-kept = on-many _ (λ n e lazy r h.
     (ok-when LimitedAll never empty (λ t. tt)))
 
 t3-kept : Limits t3
-unfolding t3
 t3-kept = on-many _ (λ n e lazy r h. ok-when LimitedAll (isEmpty r) empty (λ t. tt))
 
 assert-limited : (n : ℕ) (r : Node) → Ok LimitedAll (onAssert (λ a. some (cond (eqb n 0) empty (assert a))) r)
@@ -106,17 +103,14 @@ assert-limited n (alt r q) = tt
 assert-limited n (many m e lazy r) = tt
 
 t4-kept : Limits t4
-unfolding t4
 t4-kept = on-many _ (λ n e lazy r h. assert-limited n r)
 
 t5-kept : Limits t5
-unfolding t5
 t5-kept = on-many _ (λ n e lazy r h. on-many _ (λ m f inner q g.
     ok-when LimitedAll (counts n e 0 none && counts m f 0 none && absorbed inner lazy && groupFree q) (many 0 none lazy q)
     (λ t. (omega arith, g))) r h)
 
 t9-kept : Limits t9
-unfolding t9
 t9-kept = on-many _ (λ n e lazy r h. on-many _ (λ m f inner q g.
     ok-when LimitedAll (counts n e 0 (some 1) && counts m f 0 (some 1) && Bool·beq lazy inner && groupFree q)
     (many 0 (some 1) lazy q) (λ t. (omega arith, g))) r h)
@@ -130,7 +124,6 @@ distinct-limited seen (r ∷ l) h = ok-test (All LimitedAll) (groupFree r && any
     (distinct-limited (r ∷ seen) l (h .1)))
 
 t6-kept : Limits t6
-unfolding t6
 t6-kept = on-alternatives (distinct []) (distinct-limited [])
 
 possible-limited : (l : List Node) → All LimitedAll l → Ok (All LimitedAll) (possible l)
@@ -140,7 +133,6 @@ possible-limited (r ∷ l) h = ok-test (All LimitedAll) (isVoid r) (some l) _ (�
     (ok-map (All LimitedAll) (All LimitedAll) (λ m. r ∷ m) (λ m g. (h .0, g)) (possible l) (possible-limited l (h .1)))
 
 t7-kept : Limits t7
-unfolding t7
 t7-kept r h = ok-else LimitedAll (onAlternatives possible r) (impossible r) (on-alternatives possible possible-limited r h)
     (on-parts sequence _ (λ l g. ok-when LimitedAll (groupFree r && any isVoid l) (bset void) (λ e. tt)) r h)
 
@@ -184,7 +176,6 @@ share-limited (r ∷ l) h = ok-else (All LimitedAll) (sharedAt (firstSet (items 
     (ok-map (All LimitedAll) (All LimitedAll) (λ m. r ∷ m) (λ m g. (h .0, g)) (share l) (share-limited l (h .1)))
 
 t8-kept : Limits t8
-unfolding t8
 t8-kept = on-alternatives share share-limited
 
 laws-limited : Each Limits laws
@@ -242,7 +233,7 @@ places-keep t (many n e lazy r) h = each-append Keeps (map (inside (many n e laz
 
 found-limited : (r : Node) → LimitedAll r → Ok (λ t. LimitedAll (t .1 .1)) (found r)
 unfolding found
-found-limited r h = ok-first (λ t. LimitedAll (t .1)) _ 0 (places none r)
+found-limited r h = ok-first (λ t. LimitedAll (t .1)) _ 1 (places none r)
     (each-imp Keeps _ (λ o f. ok-map (λ t. LimitedAll (t .1)) (λ t. LimitedAll (t .1)) (λ t. (t .0, o .put (t .1)))
     (λ t g. f .put-limited (t .1) g) (lowest (o .part)) (lowest-limited (o .part) (f .part-limited)))
     (places none r) (places-keep none r h))
