@@ -35,14 +35,14 @@ pub record SomeHeld (table : List ℕ) (n : ℕ) : Type 0 where
   pub held : Held table n node groups bytes
 
 -- A place that the search found in such a pattern, which becomes `next`.
-pub record SomeFound (table : List ℕ) (n part law : ℕ) : Type 0 where
+pub record SomeFound (table : List ℕ) (n top law : ℕ) : Type 0 where
   pub pattern : SomeHeld table n
   pub next : Node
-  pub finds : found (pattern .node) ≡ some (part, (law, next))
+  pub finds : found (pattern .node) ≡ some (top, (law, next))
 
 -- What a step there does, whatever the pattern is: its records become those of the next one, which there is room for too.
-pub record Steps (table table′ : List ℕ) (n part law n′ : ℕ) : Type 0 where
-  pub by : (r q : Node) (g p : ℕ) → Held table n r g p → found r ≡ some (part, (law, q)) → Held table′ n′ q g p
+pub record Steps (table table′ : List ℕ) (n top law n′ : ℕ) : Type 0 where
+  pub by : (r q : Node) (g p : ℕ) → Held table n r g p → found r ≡ some (top, (law, q)) → Held table′ n′ q g p
 
 -- The records of a pattern, and zeros behind them.
 abbrev pub tableOf : Node → ℕ → List ℕ

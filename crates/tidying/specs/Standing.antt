@@ -1,9 +1,9 @@
--- Where each part of a pattern stands: its records end with the record that has the number of its place.
+-- Where each part of a pattern stands: its records end at the record number that is the number of its place.
 use mathlib.Core.Path.{_≡_, refl, sym, ap, subst, _∙_}
 use mathlib.Core.Bool.{Bool}
 use mathlib.Core.Option.{Option, none, some}
 use mathlib.Core.List.{List, [], _∷_, _++_, append-assoc, append-nil, map}
-use Prim.Native.Nat.{ℕ, zero, suc, _+_, _*_, _<_}
+use Prim.Native.Nat.{ℕ, zero, suc, _+_, _*_, _≤_, _<_}
 use native.Mathlib.Omega.{arith}
 use lib.ListN.{length, getD, take, length-append, length-map}
 use lib.Seq.{take-at, take-take}
@@ -16,6 +16,7 @@ use Rattle.table.specs.Roots.{stands-long}
 use Rattle.tidying_laws.specs.Groups.{groups, Positive, positive-both}
 use Rattle.tidying_laws.specs.Measures.{groups-adds}
 use Rattle.tidying_laws.specs.Tidier.{Place, itself, inside, whole, places}
+use Rattle.tidying_laws.specs.Found.{nth}
 
 -- Elements one after the other, each with its number, counted from n.
 abbrev pub Numbered : {A : Type 0} → (A → ℕ → Type 0) → ℕ → List A → Type 0
@@ -55,17 +56,17 @@ whole-many : (n : ℕ) (e : Option ℕ) (lazy : Bool) (r : Node) → Whole (many
 whole-many n e lazy r h = record { proper = h .proper .1; flat = h .flat }
 
 -- A part among the words of a pattern, and how many of them there are up to its end.
-pub record Ended (t : Option Kind) (r : Node) (p : Place) (i : ℕ) : Type 0 where
+pub record Ended (t : Option Kind) (r : Node) (p : Place) (top : ℕ) : Type 0 where
   pub before : List ℕ
   pub after : List ℕ
   pub split : wordsIn t r ≡ before ++ (records (p .part) ++ after)
-  pub number : length before + length (records (p .part)) ≡ recordWords * suc i
+  pub number : length before + length (records (p .part)) ≡ recordWords * top
   pub part-whole : Whole (p .part)
 
 -- A pattern ends where its own records do.
-ends-here : (t : Option Kind) (r : Node) (i : ℕ) → Whole r → wordsIn t r ≡ records r → recordCount r ≡ suc i
-    → Ended t r (itself r) i
-ends-here t r i h e n = record {
+ends-here : (t : Option Kind) (r : Node) (top : ℕ) → Whole r → wordsIn t r ≡ records r → recordCount r ≡ top
+    → Ended t r (itself r) top
+ends-here t r top h e n = record {
   before = [];
   after = [];
   split = e ∙ sym (append-nil (records r));
@@ -76,8 +77,8 @@ ends-here t r i h e n = record {
 -- A part of a part, which stands among the words of a larger pattern.
 module _ (t t′ : Option Kind) (r q : Node) (put : Node → Node) (first last : List ℕ) (d : ℕ)
     (all : wordsIn t′ q ≡ first ++ (wordsIn t r ++ last)) (long-first : length first ≡ recordWords * d) where
-  ends-inside : (p : Place) (i : ℕ) → Ended t r p i → Ended t′ q (inside put p) (d + i)
-  ends-inside p i h = record {
+  ends-inside : (p : Place) (top : ℕ) → Ended t r p top → Ended t′ q (inside put p) (d + top)
+  ends-inside p top h = record {
     before = first ++ h .before;
     after = h .after ++ last;
     split = all ∙ ap (λ l. first ++ (l ++ last)) (h .split) ∙ simp append-assoc;
@@ -94,11 +95,11 @@ module _ (t t′ : Option Kind) (r q : Node) (put : Node → Node) (first last :
 
 -- What is shown of the places of a pattern: that they are as many as its records, and where each ends.
 abbrev Placed : Option Kind → Node → List Place → Type 0
-Placed t r l = (length l ≡ recordsIn t r) × Numbered (Ended t r) 0 l
+Placed t r l = (length l ≡ recordsIn t r) × Numbered (Ended t r) 1 l
 
 leaf-placed : (t : Option Kind) (r : Node) → Whole r → wordsIn t r ≡ records r → recordCount r ≡ 1 → recordsIn t r ≡ 1
     → Placed t r (itself r ∷ [])
-leaf-placed t r h e n m = (sym m, (ends-here t r 0 h e n, tt))
+leaf-placed t r h e n m = (sym m, (ends-here t r 1 h e n, tt))
 
 -- A part inside a group or a quantifier, and it itself.
 wrap-placed : (t : Option Kind) (r : Node) (wrap : Node → Node) (l : List Place) → Whole (wrap r)
@@ -107,13 +108,13 @@ wrap-placed : (t : Option Kind) (r : Node) (wrap : Node → Node) (l : List Plac
     → Placed none r l → Placed t (wrap r) (map (inside wrap) l ++ (itself (wrap r) ∷ []))
 wrap-placed t r wrap l h words count (n, g) = (
   simp (length-append, length-map) (omega (arith, count t)),
-  numbered-append (Ended t (wrap r)) 0 (recordCount r) (map (inside wrap) l) (itself (wrap r) ∷ [])
-      (all-inside none t r (wrap r) wrap [] (ownRecord (wrap r)) 0 (words t) refl 0 0 refl l g)
+  numbered-append (Ended t (wrap r)) 1 (recordCount r + 1) (map (inside wrap) l) (itself (wrap r) ∷ [])
+      (all-inside none t r (wrap r) wrap [] (ownRecord (wrap r)) 0 (words t) refl 1 1 refl l g)
       (simp length-map (omega arith))
-      (ends-here t (wrap r) (recordCount r) h (words t ∙ sym (words none)) (omega (arith, count none)), tt),
+      (ends-here t (wrap r) (recordCount r + 1) h (words t ∙ sym (words none)) (count none), tt),
 )
 
--- The parts inside the first part of a series, those of the rest, and the series itself unless it goes on.
+-- The parts inside the first part of a row, those of the rest, and the row itself unless it goes on.
 abbrev closing : Option Kind → Kind → Node → List ℕ
 closing t k r = unless t k [] (ownRecord r)
 
@@ -129,7 +130,7 @@ unfolding recordsIn
 pair-count t sequence a q = refl
 pair-count t alternation a q = refl
 
-whole-placed : (t : Option Kind) (k : Kind) (r : Node) (n : ℕ) → Whole r → recordCount r ≡ suc n
+whole-placed : (t : Option Kind) (k : Kind) (r : Node) (n : ℕ) → Whole r → recordCount r ≡ n
     → ((u v : Option Kind) → unless u k [] (ownRecord r) ≡ unless v k [] (ownRecord r) → wordsIn u r ≡ wordsIn v r)
     → (length (whole t k r) ≡ unless t k 0 1) × Numbered (Ended t r) n (whole t k r)
 whole-placed none k r n h e f = (refl, (ends-here none r n h refl e, tt))
@@ -145,19 +146,19 @@ row-placed : (t : Option Kind) (k : Kind) (a q : Node) (l m : List Place) → Wh
     → Placed t (pair k a q) (map (inside (λ p. glue k p q)) l ++ (map (inside (pair k a)) m ++ whole t k (pair k a q)))
 row-placed t k a q l m h (n, f) (o, g) =
     let r : Node = pair k a q in
-    let here : ℕ = recordCount a + recordsIn (some k) q in
+    let here : ℕ = recordCount a + recordsIn (some k) q + 1 in
     let last = whole-placed t k r here h (omega (arith, pair-count none k a q))
     (λ u v e. pair-words u k a q ∙ ap (λ x. (records a ++ wordsIn (some k) q) ++ x) e ∙ sym (pair-words v k a q)) in
-    let first : Numbered (Ended t r) 0 (map (inside (λ p. glue k p q)) l)
+    let first : Numbered (Ended t r) 1 (map (inside (λ p. glue k p q)) l)
     = all-inside none t a r (λ p. glue k p q) [] (wordsIn (some k) q ++ closing t k r) 0
-    (pair-words t k a q ∙ append-assoc (records a) (wordsIn (some k) q) (closing t k r)) refl 0 0 refl l f in
-    let rest : Numbered (Ended t r) (recordCount a) (map (inside (pair k a)) m)
+    (pair-words t k a q ∙ append-assoc (records a) (wordsIn (some k) q) (closing t k r)) refl 1 1 refl l f in
+    let rest : Numbered (Ended t r) (recordCount a + 1) (map (inside (pair k a)) m)
     = all-inside (some k) t q r (pair k a) (records a) (closing t k r) (recordCount a)
     (pair-words t k a q ∙ append-assoc (records a) (wordsIn (some k) q) (closing t k r))
-    (long a (whole-pair k a q h .0 .proper)) 0 (recordCount a) (omega arith) m g in (
+    (long a (whole-pair k a q h .0 .proper)) 1 (recordCount a + 1) refl m g in (
       simp (length-append, length-map) (omega (arith, pair-count t k a q, last .0)),
-      numbered-append (Ended t r) 0 (recordCount a) (map (inside (λ p. glue k p q)) l) _ first (simp length-map (omega arith))
-          (numbered-append (Ended t r) (recordCount a) here (map (inside (pair k a)) m) _ rest (simp length-map (omega arith))
+      numbered-append (Ended t r) 1 (recordCount a + 1) (map (inside (λ p. glue k p q)) l) _ first (simp length-map (omega arith))
+          (numbered-append (Ended t r) (recordCount a + 1) here (map (inside (pair k a)) m) _ rest (simp length-map (omega arith))
           (last .1)),
     )
 
@@ -175,36 +176,39 @@ placed t (alt a q) h = row-placed t alternation a q (places none a) (places (som
 placed t (many n e lazy r) h =
     wrap-placed t r (many n e lazy) (places none r) h (λ s. refl) (λ s. refl) (placed none r (whole-many n e lazy r h))
 
--- The place of a number.
+-- The place of a number, counted from 1, and whether a pattern of n records has one.
 abbrev pub placeAt : Node → ℕ → Place
-placeAt r i = getD (places none r) i (itself empty)
+placeAt r top = nth (itself empty) (places none r) top
+
+abbrev pub IsPlace : ℕ → ℕ → Type 0
+IsPlace top n = (1 ≤ top) × (top ≤ n)
 
 -- There is a place for each record of a pattern that stands in a table, and the part there ends with that record.
 module _ {table : List ℕ} {n : ℕ} (r : Node) (h : Whole r) (stands : Stands table n (records r)) where
   pub place-count : length (places none r) ≡ n
   place-count = omega (arith, placed none r h .0, stands-long stands, long r (h .proper))
 
-  module _ (i : ℕ) (within : i < n) where
-    pub place-ended : Ended none r (placeAt r i) i
-    place-ended = numbered-at (Ended none r) (itself empty) 0 (places none r) (placed none r h .1) i i
-        (omega (arith, place-count)) (omega arith)
+  pub place-ended : (top : ℕ) → IsPlace top n → Ended none r (placeAt r top) top
+  place-ended zero within = absurd (omega arith)
+  place-ended (suc i) within = numbered-at (Ended none r) (itself empty) 1 (places none r) (placed none r h .1) i (suc i)
+      (omega (arith, place-count)) (omega arith)
 
-    pub place-ends : Ends table (i + 1) (place-ended .before) (placeAt r i .part)
+  module _ (top : ℕ) (within : IsPlace top n) where
+    pub place-ends : Ends table top (place-ended top within .before) (placeAt r top .part)
     place-ends =
-        let e : Ended none r (placeAt r i) i = place-ended in
-        let first : List ℕ = e .before ++ records (placeAt r i .part) in
-        let size : length first ≡ recordWords * (i + 1)
-        = length-append (e .before) (records (placeAt r i .part)) ∙ e .number ∙ omega arith in
+        let e : Ended none r (placeAt r top) top = place-ended top within in
+        let first : List ℕ = e .before ++ records (placeAt r top .part) in
         record {
           stands = record {
-            below = sym (take-take (recordWords * (i + 1)) (recordWords * n) table (omega arith))
-                ∙ ap (take (recordWords * (i + 1)))
-                (stands .below ∙ e .split ∙ sym (append-assoc (e .before) (records (placeAt r i .part)) (e .after)))
-                ∙ take-at first (e .after) (recordWords * (i + 1)) size;
+            below = sym (take-take (recordWords * top) (recordWords * n) table (omega arith))
+                ∙ ap (take (recordWords * top))
+                (stands .below ∙ e .split ∙ sym (append-assoc (e .before) (records (placeAt r top .part)) (e .after)))
+                ∙ take-at first (e .after) (recordWords * top)
+                (length-append (e .before) (records (placeAt r top .part)) ∙ e .number);
             room = omega (arith, stands .room);
           };
           proper = e .part-whole .proper;
         }
 
-    pub place-flat : Flat (placeAt r i .part)
-    place-flat = place-ended .part-whole .flat
+    pub place-flat : Flat (placeAt r top .part)
+    place-flat = place-ended top within .part-whole .flat

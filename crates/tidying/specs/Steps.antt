@@ -1,4 +1,4 @@
--- A step of the tidier over a table: a law is carried out at the part that was found, what it makes settles in the series that it
+-- A step of the tidier over a table: a law is carried out at the part that was found, what it makes settles in the row that it
 -- stands in, and the derived words are written anew.
 use mathlib.Core.Path.{_≡_, sym, ap, subst, _∙_}
 use mathlib.Core.Option.{Option, none, some, Option·map, Option·none-ne-some, Option·some-injective}
@@ -6,50 +6,38 @@ use mathlib.Core.List.{List, [], _∷_, _++_}
 use Prim.Native.Nat.{ℕ, zero, suc, _+_, _-_, _*_, _≤_, _<_}
 use native.Mathlib.Omega.{arith}
 use lib.ListN.{length, getD, length-append}
-use lib.Seq.{getD-append-add}
 use Rattle.meaning.specs.Node.{Node, Node.empty}
 use Rattle.meaning.specs.Flat.{Kind, pair, Flat, by-parts}
 use Rattle.meaning.specs.Results.{concatMap}
 use Rattle.table.specs.Table.{recordWords}
 use Rattle.table.specs.Laws.{inner}
 use Rattle.tidying_laws.specs.Charge.{records-bound}
-use Rattle.tidying_laws.specs.List.{laws}
 use Rattle.tidying_laws.specs.Tidier.{Place, itself, places, lowest, found, tidyStep}
-use Rattle.tidying_laws.specs.Found.{First, first-at, places-records}
+use Rattle.tidying_laws.specs.Found.{first-nth, places-records}
+use Rattle.tidying_laws.specs.ByNumber.{lawOf, law-at}
 use Rattle.tidying_laws.specs.Tidy.{Step, step}
 use Rattle.tidying_shapes.specs.Skeleton.{Token, skeletonIn, skeleton, width, token, inner-skeleton, pair-row, pair-in}
 use Rattle.tidying_shapes.specs.Skeleton.{alone as in-row}
 use Rattle.tidying_shapes.specs.Tokens.{Says}
 use Rattle.tidying_shapes.specs.Laws.{says-length}
 use Rattle.tidying_shapes.specs.Told.{skeleton-count, stands-say}
-use Rattle.tidying_shapes.specs.Spots.{Parent, Parent.top, Parent.alone, Parent.among, rowOf, behind, Spot}
+use Rattle.tidying_shapes.specs.Spots.{Parent, Parent.top as outermost, Parent.alone, Parent.among, rowOf, behind, Spot}
 use Rattle.tidying_shapes.specs.Placed.{Spots, placed}
 use Rattle.tidying_shapes.specs.Replaced.{spot-tokens, spot-unsettled, spot-settled}
 use Rattle.tidying_shapes.specs.Settling.{Unsettled, SomeUnsettled, Settled}
 use Rattle.tidying_shapes.specs.Fresh.{Said, SomeSaid, Refreshed}
-use Rattle.tidying_fitting.specs.Fitting.{lawOf}
-use Rattle.tidying_rewriting.specs.Rewriting.{Fitting, SomeFitting, Rewrites, count}
-use Rattle.tidying.specs.Standing.{Whole, placeAt, place-count, place-ended, place-ends, place-flat}
+use Rattle.tidying_rewriting.specs.Rewriting.{Fitting, SomeFitting, count}
+use Rattle.tidying_rewriting.specs.Carried.{Carries}
+use Rattle.tidying.specs.Standing.{Whole, placeAt, IsPlace, place-count, place-ended, place-ends, place-flat}
 use Rattle.tidying.specs.Search.{choice}
 use Rattle.tidying.specs.Held.{Held, held-whole}
 
 -- What a place found says: the part there, what the law makes of it, and what the pattern becomes.
-record Fits (r : Node) (part law : ℕ) (q : Node) : Type 0 where
+record Fits (r : Node) (top law : ℕ) (q : Node) : Type 0 where
   result : Node
-  within : part < length (places none r)
-  law-fits : lawOf law (placeAt r part .part) ≡ some result
-  becomes : placeAt r part .put result ≡ q
-
--- The lowest law that fits is the law of its number.
-law-at : (x y : Node) (k : ℕ) → lowest x ≡ some (k, y) → lawOf k x ≡ some y
-unfolding lowest lawOf
-law-at x y k e =
-    let f : First (λ f. f x) 1 laws k y = first-at (λ f. f x) 1 laws k y e in
-    let at : k ≡ suc (length (f .front) + 0) = omega (arith, f .number) in
-    ap (λ (i : ℕ). lawOf i x) at
-    ∙ ap (λ (l : List (Node → Option Node)). getD {A = Node → Option Node} l (length (f .front) + 0) (λ r. none) x) (f .split)
-    ∙ ap (λ (h : Node → Option Node). h x) (getD-append-add (f .front) (f .here ∷ f .back) 0 (λ r. none))
-    ∙ f .success
+  within : IsPlace top (length (places none r))
+  law-fits : lawOf law (placeAt r top .part) ≡ some result
+  becomes : placeAt r top .put result ≡ q
 
 -- What a place gives comes of what the lowest law makes of its part.
 from-choice : (p : Place) (o : Option (ℕ × Node)) (k : ℕ) (q : Node)
@@ -59,35 +47,31 @@ from-choice p (some (j, y)) k q e =
     let f : Path (ℕ × Node) (j, p .put y) (k, q) = Option·some-injective (j, p .put y) (k, q) e in
     (y, ap (λ (t : ℕ × Node). some (t .0, y)) f, ap (λ (t : ℕ × Node). t .1) f)
 
-fits-at : (r q : Node) (part law : ℕ) → found r ≡ some (part, (law, q)) → Fits r part law q
+fits-at : (r q : Node) (top law : ℕ) → found r ≡ some (top, (law, q)) → Fits r top law q
 unfolding found
-fits-at r q part law e =
-    let f : First choice 0 (places none r) part (law, q) = first-at choice 0 (places none r) part (law, q) e in
-    let at : part ≡ length (f .front) + 0 = omega (arith, f .number) in
-    let here : f .here ≡ placeAt r part
-    = sym (getD-append-add (f .front) (f .here ∷ f .back) 0 (itself empty))
-    ∙ ap (λ l. getD l (length (f .front) + 0) (itself empty)) (sym (f .split)) ∙ ap (placeAt r) (sym at) in
-    let (y, low, put) = from-choice (f .here) (lowest (f .here .part)) law q (f .success) in
-    record {
-      result = y;
-      within = omega (arith, ap length (f .split), length-append (f .front) (f .here ∷ f .back));
-      law-fits = ap (λ p. lawOf law (p .part)) (sym here) ∙ law-at (f .here .part) y law low;
-      becomes = ap (λ p. p .put y) (sym here) ∙ put;
-    }
+fits-at r q top law e =
+    let (low, high, here) = first-nth choice (itself empty) (places none r) top (law, q) e in
+    let x : Node = placeAt r top .part in
+    let (y, least, put) = from-choice (placeAt r top) (lowest x) law q here in
+    record { result = y; within = (low, high); law-fits = law-at x y law least; becomes = put }
 
--- The place of a number is a spot.
+-- The place of a number is a spot, whose number is that of its own record, from 0.
 spots-at : {r : Node} (n : ℕ) (l : List Place) → Spots none r n l → (i m : ℕ) → i < length l → n + i ≡ m
     → Spot none r (getD l i (itself empty)) m
 spots-at n [] h i m g e = absurd (omega arith)
 spots-at {r} n (p ∷ l) h zero m g e = subst (λ (x : ℕ). Spot none r p x) (omega arith) (h .0)
 spots-at n (p ∷ l) h (suc i) m g e = spots-at (suc n) l (h .1) i m (omega arith) (omega arith)
 
--- A pattern alone has at most one token more than in a series.
+spot-at : (r : Node) → Flat r → (top : ℕ) → IsPlace top (length (places none r)) → Spot none r (placeAt r top) (top - 1)
+spot-at r f zero h = absurd (omega arith)
+spot-at r f (suc i) h = spots-at 0 (places none r) (placed none r f .1) i (suc i - 1) (omega arith) (omega arith)
+
+-- A pattern alone has at most one token more than in a row.
 row-less : (k : Kind) (y : Node) → length (skeleton y) ≤ length (skeletonIn (some k) y) + 1
 row-less k = by-parts k (λ y l. length (skeleton y) ≤ length (skeletonIn (some k) y) + 1)
     (λ r h. omega (arith, ap length (in-row k r h .0)))
     (λ r q l e.
-    let series : length (skeletonIn (some k) (pair k r q)) ≡ length (skeleton r) + length (skeletonIn (some k) q)
+    let row : length (skeletonIn (some k) (pair k r q)) ≡ length (skeleton r) + length (skeletonIn (some k) q)
     = ap length (pair-row k r q) ∙ length-append (skeleton r) (skeletonIn (some k) q) in
     let own : length (skeleton (pair k r q)) ≡ length (skeleton r) + (length (skeletonIn (some k) q) + 1)
     = ap length (pair-in none k r q) ∙ simp length-append (omega arith) in
@@ -96,7 +80,7 @@ row-less k = by-parts k (λ y l. length (skeleton y) ≤ length (skeletonIn (som
 -- So before a part has settled there is at most one token more than after.
 unsettled-less : (P : Parent none) (y : Node)
     → length (skeleton y) + length (behind P 1) ≤ length (skeletonIn (rowOf P) y ++ behind P (width (rowOf P) y)) + 1
-unsettled-less top y = simp length-append (omega arith)
+unsettled-less outermost y = simp length-append (omega arith)
 unsettled-less (alone tok rest) y = simp length-append (omega arith)
 unsettled-less (among k others later rest) y = simp length-append (omega (arith, row-less k y))
 
@@ -105,14 +89,14 @@ has-token : (y : Node) → 1 ≤ length (skeleton y)
 has-token y = omega (arith, ap length (inner-skeleton y) ∙ length-append (concatMap skeleton (inner y)) (token y ∷ []))
 
 -- The parts of a step at a place that was found.
-module _ {table : List ℕ} {n g p : ℕ} {r q : Node} {part law : ℕ} (h : Held table n r g p)
-    (e : found r ≡ some (part, (law, q))) where
+module _ {table : List ℕ} {n g p : ℕ} {r q : Node} {top law : ℕ} (h : Held table n r g p)
+    (e : found r ≡ some (top, (law, q))) where
   -- What is known of the pattern, of the place, and of the pattern that it becomes,
   all : Whole r
   all = held-whole h
 
-  fit : Fits r part law q
-  fit = fits-at r q part law e
+  fit : Fits r top law q
+  fit = fits-at r q top law e
 
   pub steps : tidyStep r ≡ some q
   unfolding tidyStep
@@ -128,8 +112,8 @@ module _ {table : List ℕ} {n g p : ℕ} {r q : Node} {part law : ℕ} (h : Hel
       omega (arith, placed none q flat .0, places-records q, records-bound q flat .0, next .light, h .light)
 
   -- and of the tokens on both sides of the part.
-  spot : Spot none r (placeAt r part) part
-  spot = spots-at 0 (places none r) (placed none r (h .flat) .1) part part (fit .within) (omega arith)
+  spot : Spot none r (placeAt r top) (top - 1)
+  spot = spot-at r (h .flat) top (fit .within)
 
   abbrev left : List Token
   left = concatMap skeleton (spot .earlier)
@@ -137,8 +121,8 @@ module _ {table : List ℕ} {n g p : ℕ} {r q : Node} {part law : ℕ} (h : Hel
   abbrev right : List Token
   right = behind (spot .parent) 1
 
-  part-low : part < n
-  part-low = omega (arith, fit .within, place-count r all (h .stands))
+  within : IsPlace top n
+  within = omega (arith, fit .within, place-count r all (h .stands))
 
   next-tokens : skeleton q ≡ left ++ (skeletonIn (rowOf (spot .parent)) (fit .result) ++
       behind (spot .parent) (width (rowOf (spot .parent)) (fit .result)))
@@ -152,23 +136,23 @@ module _ {table : List ℕ} {n g p : ℕ} {r q : Node} {part law : ℕ} (h : Hel
       omega (arith, next-count, unsettled-less (spot .parent) (fit .result))
 
   -- The law is carried out,
-  fitting : Fitting (lawOf law) table n part (place-ended r all (h .stands) part part-low .before) (placeAt r part .part)
+  fitting : Fitting (lawOf law) table n top (place-ended r all (h .stands) top within .before) (placeAt r top .part)
       (fit .result) left right
   fitting = record {
     placed = record {
-      ends = place-ends r all (h .stands) part part-low;
+      ends = place-ends r all (h .stands) top within;
       says = subst (λ (ts : List Token). Says table n ts) (spot-tokens spot) (stands-say r (h .proper) (h .stands));
-      here = spot .number ∙ omega arith;
-      flat = place-flat r all (h .stands) part part-low;
+      here = omega (arith, spot .number, within);
+      flat = place-flat r all (h .stands) top within;
     };
     fits = fit .law-fits;
     room = omega (arith, room, h .room);
   }
 
-  pub some-fitting : SomeFitting (lawOf law) table n part
+  pub some-fitting : SomeFitting (lawOf law) table n top
   some-fitting = record {
     before = _;
-    node = placeAt r part .part;
+    node = placeAt r top .part;
     result = fit .result;
     left = left;
     right = right;
@@ -176,12 +160,12 @@ module _ {table : List ℕ} {n g p : ℕ} {r q : Node} {part law : ℕ} (h : Hel
   }
 
   -- what it makes settles,
-  module _ {table₁ : List ℕ} {n₁ : ℕ} (w : Rewrites (lawOf law) table table₁ n part n₁) where
+  module _ {table₁ : List ℕ} {n₁ : ℕ} (w : Carries law table table₁ n top n₁) where
     says₁ : Says table₁ n₁ (left ++ (skeleton (fit .result) ++ right))
-    says₁ = w .by _ (placeAt r part .part) (fit .result) left right fitting
+    says₁ = w .by .by _ (placeAt r top .part) (fit .result) left right fitting
 
     -- its own record as far from the end as that of the part was,
-    root-at : (n ≤ part + n₁) × (length left + length (skeleton (fit .result)) ≡ suc (part + n₁ - n))
+    root-at : (n < top + n₁) × (length left + length (skeleton (fit .result)) ≡ top + n₁ - n)
     root-at = omega (
       arith,
       sym (says-length says₁) ∙ length-append left (skeleton (fit .result) ++ right),
@@ -191,21 +175,18 @@ module _ {table : List ℕ} {n g p : ℕ} {r q : Node} {part law : ℕ} (h : Hel
       has-token (fit .result),
     )
 
-    pub made-few : (part < n) × (recordWords * n ≤ length table) × (recordWords * n₁ ≤ length table₁)
-    made-few = (part-low, h .stands .room, says₁ .room)
+    pub made-few : (top ≤ n) × (n < top + n₁) × (recordWords * n ≤ length table) × (recordWords * n₁ ≤ length table₁)
+    made-few = (within .1, root-at .0, h .stands .room, says₁ .room)
 
-    pub step-root : n ≤ part + n₁
-    step-root = root-at .0
-
-    unsettled : Unsettled table₁ n₁ (part + n₁ - n) left (fit .result) (spot .parent)
-    unsettled = spot-unsettled spot (fit .result) says₁ (root-at .1) (rw (fit .becomes) (next .proper (h .proper)))
+    unsettled : Unsettled table₁ n₁ (top + n₁ - n - 1) left (fit .result) (spot .parent)
+    unsettled = spot-unsettled spot (fit .result) says₁ (omega (arith, root-at)) (rw (fit .becomes) (next .proper (h .proper)))
         (rw (fit .becomes) (omega (arith, skeleton-count q (next .proper (h .proper)), next-count, h .short)))
 
-    pub some-unsettled : SomeUnsettled table₁ n₁ (part + n₁ - n)
+    pub some-unsettled : SomeUnsettled table₁ n₁ (top + n₁ - n - 1)
     some-unsettled = record { before = left; part = fit .result; parent = spot .parent; unsettled = unsettled }
 
     -- and the derived words are written.
-    module _ {table₂ : List ℕ} {n₂ : ℕ} (s : Settled table₁ table₂ n₁ (part + n₁ - n) n₂) where
+    module _ {table₂ : List ℕ} {n₂ : ℕ} (s : Settled table₁ table₂ n₁ (top + n₁ - n - 1) n₂) where
       said : Said table₂ n₂ q
       said =
           let says₂ : Says table₂ n₂ (skeleton q) = rw (fit .becomes) at (spot-settled spot (fit .result) unsettled s) in

@@ -51,10 +51,10 @@ pub finds-same : {table : List ℕ} {n : ℕ} {a b : Found} → Finds a table n 
 finds-same {table} {n} f e = subst (λ (x : Found). Finds x table n) e f
 
 -- What the search found, or that it found nothing.
-found-some : (o : Option (ℕ × (ℕ × Node))) (part law : ℕ) → At part law ≡ answerOf o → (q : Node) × (o ≡ some (part, (law, q)))
-found-some none part law e = absurd (let z : _≡_ {A = ℕ} 0 1 = cc in omega arith)
-found-some (some (i, (k, q))) part law e =
-    let a : part ≡ i = cc in
+found-some : (o : Option (ℕ × (ℕ × Node))) (top law : ℕ) → At top law ≡ answerOf o → (q : Node) × (o ≡ some (top, (law, q)))
+found-some none top law e = absurd (let z : _≡_ {A = ℕ} 0 1 = cc in omega arith)
+found-some (some (i, (k, q))) top law e =
+    let a : top ≡ i = cc in
     let b : law ≡ k = cc in
     (q, ap₂ (λ x y. some (x, (y, q))) (sym a) (sym b))
 
@@ -73,17 +73,17 @@ pattern-in {r = r} h =
     ∙ sym (append-nil (skeleton r ++ [])))
     ∙ ap firstPart (parse-skeletons (r ∷ []) (h .proper, tt) [] [])
 
-module _ {table : List ℕ} {n part law : ℕ} (finds : Finds (At part law) table n) where
-  pub some-found : SomeHeld table n → SomeFound table n part law
+module _ {table : List ℕ} {n top law : ℕ} (finds : Finds (At top law) table n) where
+  pub some-found : SomeHeld table n → SomeFound table n top law
   some-found s =
-      let f = found-some (found (s .node)) part law (finds .by (s .node) (held-sought (s .held))) in
+      let f = found-some (found (s .node)) top law (finds .by (s .node) (held-sought (s .held))) in
       record { pattern = s; next = f .0; finds = f .1 }
 
-  module _ {table′ : List ℕ} {n′ : ℕ} (done : Steps table table′ n part law n′) where
+  module _ {table′ : List ℕ} {n′ : ℕ} (done : Steps table table′ n top law n′) where
     pub step-lighter : SomeHeld table n → weight (patternIn table′ n′) < weight (patternIn table n)
     step-lighter s =
         let r : Node = s .node in
-        let f = found-some (found r) part law (finds .by r (held-sought (s .held))) in
+        let f = found-some (found r) top law (finds .by r (held-sought (s .held))) in
         let k : Step r (s .groups) (f .0) = step r (s .groups) (s .held .numbers) (f .0) (steps (s .held) (f .1)) in
         omega (
           arith,
@@ -97,7 +97,7 @@ module _ {table : List ℕ} {n part law : ℕ} (finds : Finds (At part law) tabl
       by = λ r₀ g p h₀.
           let q = a .by r₀ g p h₀ in
           let r : Node = q .node in
-          let f = found-some (found r) part law (finds .by r (held-sought (q .held))) in
+          let f = found-some (found r) top law (finds .by r (held-sought (q .held))) in
           let k : Step r g (f .0) = step r g (q .held .numbers) (f .0) (steps (q .held) (f .1)) in
           record {
             node = f .0;

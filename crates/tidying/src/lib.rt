@@ -1,16 +1,25 @@
 // The tidier, over the table of a pattern's records (docs/TABLE.md), in place: the search for a law ends at the first place
-// found, the law is carried out there, and from the beginning again until none fits. `n` is how many records there are.
-ghost use Rattle.tidying_fitting.specs.Fitting.{lawOf};
-ghost use Rattle.tidying_rewriting.specs.Rewriting.{SomeFitting, Rewrites};
+// found, the law is carried out there, and from the beginning again until none fits. `n` is how many records there are, and a
+// part is named by the record number at which its records end, `top`.
+ghost use Rattle.tidying_rewriting.specs.Carried.{Asked, Carries};
 ghost use Rattle.tidying.specs.Search.{SomeSought, Finds};
 ghost use Rattle.tidying.specs.Held.{SomeHeld, SomeFound, Steps, Tidies};
 use reading_items::clear;
 use table::RECORD_WORDS;
-use tidying_fitting::LAWS;
 use tidying_fitting::Mark;
 use tidying_fitting::fits;
+use tidying_laws::LAWS;
+use tidying_laws::T1;
+use tidying_laws::T2;
+use tidying_laws::T3;
+use tidying_laws::T4;
+use tidying_laws::T5;
+use tidying_laws::T6;
+use tidying_laws::T7;
+use tidying_laws::T8;
+use tidying_laws::T9;
 use tidying_rewriting::drop_alternative;
-use tidying_rewriting::fill;
+use tidying_rewriting::drop_empty;
 use tidying_rewriting::unnest;
 use tidying_rewriting::unquantify;
 use tidying_rewriting::void;
@@ -18,9 +27,9 @@ use tidying_shapes::refresh;
 use tidying_shapes::settle;
 use tidying_sharing::share;
 
-// What a search for a law finds: a part, by its number, and the lowest law that fits it; or nothing.
+// What a search for a law finds: a part and the lowest law that fits it; or nothing.
 enum Found {
-    At { part: usize, law: u32 },
+    At { top: usize, law: u32 },
     Nothing,
 }
 
@@ -31,10 +40,10 @@ fn search(table: &[u32], n: usize) -> Found
     ensures { λ r. ⌜ Finds r (now (table .entry)) n ⌝ }
 {
     let mut found = Found::Nothing;
-    'search: for part in 0..n {
+    'search: for top in 1..=n {
         for law in 1..=LAWS {
-            if fits(table, part + 1, law) {
-                found = Found::At { part, law };
+            if fits(table, top, law) {
+                found = Found::At { top, law };
                 break 'search;
             }
         }
@@ -42,34 +51,34 @@ fn search(table: &[u32], n: usize) -> Found
     found
 }
 
-// The law of a number is carried out at a part. Answers how many records there are then. What is asked: that it fits the
-// part, and room for what it makes.
-fn rewrite(table: &mut [u32], n: usize, part: usize, law: u32) -> usize
-    requires { ⌜ SomeFitting (lawOf law) (now table) n part ⌝ }
-    ensures { λ r. ⌜ Rewrites (lawOf law) (now (table .entry)) (now (table .exit)) n part r ⌝ }
+// The law of a number is carried out at a part, and where no law has the number, nothing. Answers how many records there are
+// then. What is asked: that the law fits the part, and room for what it makes.
+fn rewrite(table: &mut [u32], n: usize, top: usize, law: u32) -> usize
+    requires { ⌜ Asked law (now table) n top ⌝ }
+    ensures { λ r. ⌜ Carries law (now (table .entry)) (now (table .exit)) n top r ⌝ }
 {
     match law {
-        1 => fill(table, n, part),
-        2 => unquantify(table, n, part),
-        3 => unquantify(table, n, part),
-        4 => unquantify(table, n, part),
-        5 => unnest(table, n, part),
-        6 => drop_alternative(table, n, part, Mark::Equal),
-        7 => void(table, n, part),
-        8 => share(table, n, part),
-        9 => unnest(table, n, part),
+        T1 => drop_empty(table, n, top),
+        T2 => unquantify(table, n, top),
+        T3 => unquantify(table, n, top),
+        T4 => unquantify(table, n, top),
+        T5 => unnest(table, n, top),
+        T6 => drop_alternative(table, n, top, Mark::Equal),
+        T7 => void(table, n, top),
+        T8 => share(table, n, top),
+        T9 => unnest(table, n, top),
         _ => n,
     }
 }
 
 // A step: the law is carried out, what it makes joins a series of its own kind, and the derived words are those of the pattern that
 // is then there. What is asked: the records of a pattern that was read, and the first place at which a law fits it.
-fn step(table: &mut [u32], n: usize, part: usize, law: u32) -> usize
-    requires { ⌜ SomeFound (now table) n part law ⌝ }
-    ensures { λ r. ⌜ Steps (now (table .entry)) (now (table .exit)) n part law r ⌝ }
+fn step(table: &mut [u32], n: usize, top: usize, law: u32) -> usize
+    requires { ⌜ SomeFound (now table) n top law ⌝ }
+    ensures { λ r. ⌜ Steps (now (table .entry)) (now (table .exit)) n top law r ⌝ }
 {
-    let made = rewrite(table, n, part, law);
-    let count = settle(table, made, part + made - n);
+    let made = rewrite(table, n, top, law);
+    let count = settle(table, made, top + made - n - 1);
     refresh(table, count);
     count
 }
@@ -82,10 +91,10 @@ pub fn tidy(table: &mut [u32], n: usize) -> usize
 {
     let mut count = n;
     loop {
-        let Found::At { part, law } = search(table, count) else {
+        let Found::At { top, law } = search(table, count) else {
             break;
         };
-        count = step(table, count, part, law);
+        count = step(table, count, top, law);
     }
     clear(table, RECORD_WORDS * count);
     count

@@ -5,7 +5,7 @@ use Prim.Native.Nat.{ℕ, zero, suc}
 use lib.ListN.{getD}
 use Rattle.tidying_laws.specs.Laws.{t1, t7, t8}
 use Rattle.tidying_laws.specs.List.{laws}
-use Rattle.tidying_laws.specs.ByNumber.{nothing, lawOf, IsLaw}
+use Rattle.tidying_laws.specs.ByNumber.{nothing, lawOf, IsLaw, is-law}
 use Rattle.tidying_rewriting.specs.Rewriting.{Rule, SomeFitting, Rewrites, Narrower, narrower-same, some-wide}
 use Rattle.tidying_rewriting.specs.Rewriting.{rewrites-narrow}
 use Rattle.tidying_rewriting.specs.Quantifiers.{t2-leaves, t3-leaves, t4-leaves, t5-leaves, t9-leaves}
@@ -70,3 +70,10 @@ module _ {table : List ℕ} {n top law : ℕ} (k : ℕ) (e : law ≡ k) (l : IsL
     by = subst (λ (k : ℕ). Rewrites (lawOf k) table table′ n top n′) (sym e) (rewrites-narrow (narrow k) r);
     nothing-done = λ h. absurd (h (rw e l));
   }
+
+-- And nothing is done for a number that no law has.
+pub carries-none : {table : List ℕ} {n top law : ℕ} → (IsLaw law → ⊥) → Carries law table table n top n
+carries-none {law = law} h = record {
+  by = record { by = λ before x y l m f. absurd (h (is-law law x y (f .fits))) };
+  nothing-done = λ g. (refl, refl);
+}

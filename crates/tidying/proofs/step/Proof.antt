@@ -1,12 +1,12 @@
 -- Each call does one part of the step. Assumes nothing.
 use native.Mathlib.Omega.{arith}
 use borrow.Author.Needs.{needs}
-use Rattle.tidying.specs.Steps.{some-fitting, made-few, step-root, some-unsettled, some-said, step-held}
+use Rattle.tidying.specs.Steps.{some-fitting, made-few, some-unsettled, some-said, step-held}
 use Rattle.tidying.proofs.step.Statement.{statement}
 use Rattle.tidying.proofs.step.Tie as tie
 
 rewrite-requires : tie.Need-rewrite-requires
-rewrite-requires c κs = let found = c .before .before .pre in some-fitting (found .pattern .held) (found .finds)
+rewrite-requires c κs numbered = let found = c .before .before .pre in some-fitting (found .pattern .held) (found .finds)
 
 add-settle : tie.Need-add-settle
 add-settle c =
@@ -18,7 +18,13 @@ sub-settle : tie.Need-sub-settle
 sub-settle c =
     let made = c .before .before .before in
     let found = made .before .before .before .pre in
-    omega (arith, step-root (found .pattern .held) (found .finds) (made .rewrite .ensures))
+    omega (arith, made-few (found .pattern .held) (found .finds) (made .rewrite .ensures))
+
+sub-settle-2 : tie.Need-sub-settle-2
+sub-settle-2 c =
+    let made = c .before .before .before in
+    let found = made .before .before .before .pre in
+    omega (arith, made-few (found .pattern .held) (found .finds) (made .rewrite .ensures))
 
 settle-requires : tie.Need-settle-requires
 settle-requires c κs =
@@ -33,9 +39,6 @@ refresh-requires c κs =
     let found = made .before .before .before .pre in
     some-said (found .pattern .held) (found .finds) (made .rewrite .ensures) (settled .settle .ensures)
 
-same-length : tie.Need-same-length
-same-length c = search needs
-
 returns : tie.Need-returns
 returns c =
     let fresh = c .before .before in
@@ -48,4 +51,13 @@ returns c =
 
 pub step-spec : {M : Type 1} → statement M
 step-spec =
-    tie.close (tie.spec rewrite-requires add-settle sub-settle settle-requires refresh-requires same-length returns)
+    tie.close
+    (tie.spec
+    rewrite-requires
+    add-settle
+    sub-settle
+    sub-settle-2
+    settle-requires
+    refresh-requires
+    (λ c. search needs)
+    returns)

@@ -21,8 +21,8 @@ loop-holds c = (along-start, search needs)
 search-requires : tie.Need-search-requires Inv-loop μ-loop
 search-requires c κs = some-sought (along-some (c .before .loop .inv .0) (c .before .before .before .pre))
 
-enum-known-part : tie.Need-enum-known-part Inv-loop μ-loop
-enum-known-part c = search needs
+enum-known-top : tie.Need-enum-known-top Inv-loop μ-loop
+enum-known-top c = search needs
 
 enum-told : tie.Need-enum-told Inv-loop μ-loop
 enum-told c = search needs
@@ -31,7 +31,7 @@ step-requires : tie.Need-step-requires Inv-loop μ-loop
 step-requires c κs =
     let searched = c .before .before .before .before in
     let top = searched .before .before in
-    some-found (finds-same (searched .search .ensures) (c .before .before .part .given .1))
+    some-found (finds-same (searched .search .ensures) (c .before .before .top .given .1))
     (along-some (top .loop .inv .0) (top .before .before .pre))
 
 loop-less : tie.Need-loop-less Inv-loop μ-loop
@@ -39,14 +39,14 @@ loop-less c =
     let known = c .before .before .before .before .before in
     let searched = known .before .before in
     let top = searched .before .before in
-    step-lighter (finds-same (searched .search .ensures) (known .part .given .1)) (c .before .before .step .ensures)
+    step-lighter (finds-same (searched .search .ensures) (known .top .given .1)) (c .before .before .step .ensures)
     (along-some (top .loop .inv .0) (top .before .before .pre))
 
 loop-again : tie.Need-loop-again Inv-loop μ-loop
 loop-again c =
     let known = c .before .before .before .before .before in
     let searched = known .before .before in
-    let finds = finds-same (searched .search .ensures) (known .part .given .1) in
+    let finds = finds-same (searched .search .ensures) (known .top .given .1) in
     (along-more finds (c .before .before .step .ensures) (searched .before .before .loop .inv .0), search needs)
 
 mul-clear : tie.Need-mul-clear Inv-loop μ-loop
@@ -78,7 +78,7 @@ tidy-spec =
     μ-loop
     loop-holds
     search-requires
-    enum-known-part
+    enum-known-top
     enum-told
     step-requires
     loop-less
