@@ -1,11 +1,11 @@
 -- The promise leaves one answer and one content of the registers, whatever the workspace held.
-use mathlib.Core.Path.{_≡_, refl, sym, ap, _∙_}
+use mathlib.Core.Path.{_≡_, sym, ap, _∙_}
 use mathlib.Core.List.{List}
 use Prim.Native.Nat.{ℕ}
 use native.Mathlib.Omega.{arith}
 use lib.IntN.{ℤ}
 use lib.ListN.{length}
-use Rattle.machine.specs.Replies.{Reply, reply, registersAfter}
+use Rattle.machine.specs.Replies.{lend, reply, registersAfter}
 use Rattle.engine.specs.Answers.{replyOf, Answered}
 use Rattle.engine.specs.declared.Answer.{Answer}
 use Rattle.engine.specs.declared.Answer.the-variants.{Found, Missing, Refused}
@@ -28,6 +28,6 @@ pub same-answer : {code text : List ℕ} {start row : ℕ} {before after after�
     → length work ≡ length work′ → Answered code text start row before work r after left
     → Answered code text start row before work′ q after′ left′ → (r ≡ q) × (after ≡ after′)
 same-answer {code} {text} {start} {row} {before} {r = r} {q = q} e a b = (
-  one-answer r q (a .replies ∙ ap (λ (n : ℕ). reply code text start (length before) n row) e ∙ sym (b .replies)),
-  a .spans ∙ ap (λ (n : ℕ). registersAfter code text start before n row) e ∙ sym (b .spans),
+  one-answer r q (a .replies ∙ ap (λ n. reply code (lend text start (length before) n) row) e ∙ sym (b .replies)),
+  a .spans ∙ ap (λ n. registersAfter code (lend text start (length before) n) row before) e ∙ sym (b .spans),
 )

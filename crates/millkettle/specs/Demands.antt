@@ -9,7 +9,7 @@ use lib.ListN.{length}
 use Rattle.meaning.specs.Bytes.{Bytes}
 use Rattle.machine.specs.Steps.{count}
 use Rattle.machine.specs.Words.{rowsSaid}
-use Rattle.machine.specs.Replies.{refusal, runOf}
+use Rattle.machine.specs.Replies.{lentBy, turnedAway, refusal, runOf}
 use Rattle.compiler.specs.Compiling.{Compiles}
 use Rattle.compiler.specs.declared.Compilation.{Compilation}
 use Rattle.compiler.specs.declared.Compilation.the-variants.{Rows}
@@ -17,7 +17,6 @@ use Rattle.compiler_tidied.specs.Compiling.{CompilesTidied}
 use Rattle.engine.specs.Answers.{replyOf, executed, Answered}
 use Rattle.engine.specs.declared.Answer.{Answer}
 use Rattle.engine.specs.declared.Answer.the-variants.{Refused}
-use Rattle.millkettle.specs.Finding.{lentBy, turnedAway}
 use Rattle.millkettle.specs.Laws.{Way, rowOf}
 use Rattle.millkettle.specs.Runs.{bounded-rows, counted-rows, turned-rows, Compiled, compiled-standard}
 use Rattle.millkettle.specs.Tidied.{Neat, neat, outcome, same-answers}
@@ -27,8 +26,8 @@ use Rattle.millkettle.specs.Tidied.{Neat, neat, outcome, same-answers}
 pub demand-1 : {code text : List ℕ} {start row : ℕ} {registers registers′ : List ℤ} {workspace workspace′ : List ℕ} {r : Answer}
     → Answered code text start row registers workspace r registers′ workspace′
     → (executed r ≤ 2 * rowsSaid code * (length text - start + 1))
-    × (refusal code text start (length registers) (length workspace) ≡ 0 → executed r ≡ count (runOf code text start row))
-    × ((k : ℕ) → refusal code text start (length registers) (length workspace) ≡ suc k
+    × (refusal code (lentBy text start registers workspace) ≡ 0 → executed r ≡ count (runOf code text start row))
+    × ((k : ℕ) → refusal code (lentBy text start registers workspace) ≡ suc k
     → (r ≡ Refused (suc k)) × (registers′ ≡ registers) × (workspace′ ≡ workspace))
 demand-1 a = (bounded-rows a, counted-rows a, turned-rows a)
 

@@ -1,17 +1,17 @@
 -- From what `compile` and a run promise to the promise of `find`.
 use mathlib.Core.Path.{_≡_, refl, sym, ap, subst, _∙_}
-use mathlib.Core.Option.{Option, none, some}
+use mathlib.Core.Option.{Option}
 use mathlib.Core.List.{List}
-use Prim.Native.Nat.{ℕ, zero, suc, _-_}
+use Prim.Native.Nat.{ℕ, zero, suc}
 use native.Mathlib.Omega.{arith}
 use lib.IntN.{ℤ}
 use lib.ListN.{length}
+use Rattle.meaning.specs.Refusals as No
 use Rattle.meaning.specs.Text.{Regs}
 use Rattle.meaning.specs.Bytes.{Bytes}
-use Rattle.machine.specs.Steps.{Machine, run, best, count, searchRow}
+use Rattle.machine.specs.Steps.{Machine, best, count, searchRow}
 use Rattle.machine.specs.Words.{groupsSaid}
-use Rattle.machine.specs.Replies.{Reply.refused, runOf, answerOf, replyTo, reply}
-use Rattle.machine.specs.Replies.{spans, registersFrom, registersAfter}
+use Rattle.machine.specs.Replies.{Lent, lentBy, turnedAway, runOf, replyTo, reply, registersFrom, registersAfter}
 use Rattle.reading_items.specs.Reading.{Reading, Reading.pattern, Reading.refused, reading}
 use Rattle.code_rows.specs.Emission.{emission}
 use Rattle.code_rows.specs.declared.Emission.{Emission}
@@ -22,16 +22,11 @@ use Rattle.compiler.specs.declared.Compilation.the-variants.{Rows, Refused as T
 use Rattle.engine.specs.Answers.{executed, Answered}
 use Rattle.engine.specs.declared.Answer.{Answer}
 use Rattle.engine.specs.declared.Answer.the-variants.{Found as Ran, Missing as Ended, Refused as Stopped}
-use Rattle.millkettle.specs.Finding.{Lent, lentBy, turnedAway, told, ran}
-use Rattle.millkettle.specs.Finding.{emitted, findingBy, finding, findingFrom, findingOf}
-use Rattle.millkettle.specs.Finding.{spansRan, spansEmitted, spansBy, spansLeft, counted, Finds}
+use Rattle.millkettle.specs.Finding.{sought, stepsTaken, emitted, findingBy, finding, findingFrom, findingOf}
+use Rattle.millkettle.specs.Finding.{spansEmitted, spansBy, spansLeft, counted, Finds}
 use Rattle.millkettle.specs.Laws.{Made, made, Way.searching, same-run, finds, conditions, within}
 use Rattle.millkettle.specs.declared.Finding.{Finding}
 use Rattle.millkettle.specs.declared.Finding.the-variants.{Refused}
-
-from-answer : (o : Option Regs) (n : ℕ) → findingFrom (answerOf o n) ≡ told o n
-from-answer none n = refl
-from-answer (some ρ) n = refl
 
 counted-of : (r : Answer) → counted (findingOf r) ≡ executed r
 counted-of (Ran n) = refl
@@ -45,8 +40,8 @@ turned-answer words (pattern r g) e lent = go (emission r words) e
   where
     go : {n p : ℕ} (y : Emission) → Turned n p ≡ answerFor g y → Refused n p ≡ emitted y r g lent
     go (Emitted m) e = absurd (let z : _≡_ {A = ℕ} 0 1 = cc in omega arith)
-    go {n} {p} TooMany e = let u : n ≡ 15 = cc in let v : p ≡ 0 = cc in rw (u, v)
-    go {n} {p} TooShort e = let u : n ≡ 16 = cc in let v : p ≡ 0 = cc in rw (u, v)
+    go {n} {p} TooMany e = let u : n ≡ No.manyRows = cc in let v : p ≡ 0 = cc in rw (u, v)
+    go {n} {p} TooShort e = let u : n ≡ No.shortCode = cc in let v : p ≡ 0 = cc in rw (u, v)
 turned-answer {n} {p} words (refused m q) e lent = let u : n ≡ m = cc in let v : p ≡ q = cc in rw (u, v)
 
 turned-spans : {n p : ℕ} (words : ℕ) (x : Reading) → Turned n p ≡ answerBy x words → (lent : Lent) (before : List ℤ)
@@ -81,45 +76,41 @@ module _ (s text : List ℕ) (start : ℕ) (table code : List ℕ) (registers : 
 
   -- A pattern that was compiled, and the run of its code.
   module _ {n g : ℕ} (m : Made s table code n g) (bytes : Bytes text) where
-    by-number : (k : ℕ) → turnedAway n g (lentBy text start registers workspace) ≡ k
-        → findingFrom (replyTo k (runOf (codeAt s table code) text start searchRow)) ≡ ran k (m .node) g
-        (lentBy text start registers workspace)
-    by-number zero e =
-        from-answer (best (runOf (codeAt s table code) text start searchRow))
-        (count (runOf (codeAt s table code) text start searchRow))
-        ∙ rw (
-          finds (m .is-coded) text bytes start searching (within n g (lentBy text start registers workspace) e),
-          same-run (m .is-coded) text bytes
-              start searchRow,
-        )
+    abbrev lent : Lent
+    lent = lentBy text start registers workspace
+
+    abbrev M : Machine
+    M = runOf (codeAt s table code) text start searchRow
+
+    abbrev result : Option Regs
+    result = sought (m .node) g lent
+
+    -- What was found is the standard's, unless the run is turned away.
+    by-number : (k : ℕ) → turnedAway n g lent ≡ k → replyTo k (best M) (count M) ≡ replyTo k result (stepsTaken (m .node) g lent)
+    by-number zero e = rw (
+      finds (m .is-coded) text bytes start searching (within n g lent e),
+      same-run (m .is-coded) text bytes start searchRow,
+    )
     by-number (suc k) e = refl
 
-    spans-by-number : (k : ℕ) → turnedAway n g (lentBy text start registers workspace) ≡ k
-        → registersFrom k g (runOf (codeAt s table code) text start searchRow) registers
-        ≡ spansRan k (m .node) g (lentBy text start registers workspace) registers
-    spans-by-number zero e = rw (finds (m .is-coded) text bytes start searching
-        (within n g (lentBy text start registers workspace) e))
+    spans-by-number : (k : ℕ) → turnedAway n g lent ≡ k → registersFrom k g (best M) registers ≡ registersFrom k g result registers
+    spans-by-number zero e = rw (finds (m .is-coded) text bytes start searching (within n g lent e))
     spans-by-number (suc k) e = refl
 
-    replied : findingFrom (reply (codeAt s table code) text start (length registers) (length workspace) searchRow)
-        ≡ finding s (length table) (length code) (lentBy text start registers workspace)
+    replied : findingFrom (reply (codeAt s table code) lent searchRow) ≡ finding s (length table) (length code) lent
     unfolding reply
     replied =
-        let lent : Lent = lentBy text start registers workspace in
-        ap (λ k. findingFrom (replyTo k (runOf (codeAt s table code) text start searchRow)))
-        (conditions (m .is-coded) text bytes start (length registers) (length workspace))
-        ∙ by-number (turnedAway n g lent) refl ∙ sym (ap (λ x. findingBy x (length code) lent) (m .is-read)
+        ap (λ k. findingFrom (replyTo k (best M) (count M))) (conditions (m .is-coded) text bytes start lent)
+        ∙ ap findingFrom (by-number (turnedAway n g lent) refl) ∙ sym (ap (λ x. findingBy x (length code) lent) (m .is-read)
         ∙ ap (λ y. emitted y (m .node) g lent) (m .is-emitted))
 
-    spanned : registersAfter (codeAt s table code) text start registers (length workspace) searchRow
-        ≡ spansLeft s (length table) (length code) (lentBy text start registers workspace) registers
+    spanned : registersAfter (codeAt s table code) lent searchRow registers
+        ≡ spansLeft s (length table) (length code) lent registers
     unfolding registersAfter
     spanned =
-        let lent : Lent = lentBy text start registers workspace in
-        let M : Machine = runOf (codeAt s table code) text start searchRow in
-        ap (λ k. registersFrom k (groupsSaid (codeAt s table code)) M registers)
-        (conditions (m .is-coded) text bytes start (length registers) (length workspace))
-        ∙ ap (λ h. registersFrom (turnedAway n g lent) h M registers) (m .is-coded .groups-said)
+        ap (λ k. registersFrom k (groupsSaid (codeAt s table code)) (best M) registers)
+        (conditions (m .is-coded) text bytes start lent)
+        ∙ ap (λ h. registersFrom (turnedAway n g lent) h (best M) registers) (m .is-coded .groups-said)
         ∙ spans-by-number (turnedAway n g lent) refl ∙ sym (ap (λ x. spansBy x (length code) lent registers) (m .is-read)
         ∙ ap (λ y. spansEmitted y (m .node) g lent registers) (m .is-emitted))
 

@@ -18,7 +18,8 @@ use Rattle.reading_atoms.specs.Braces.{quantifierAt}
 use Rattle.reading_items.specs.Reading.{openingAt, itemBy, itemAt, sequenceGo, alternativesGo, reading}
 use Rattle.compiler.specs.Compiling.{codeAt, Compiles}
 use Rattle.compiler.specs.declared.Compilation.{Compilation}
-use Rattle.millkettle.specs.Finding.{lentBy, finding, spansLeft, counted, Finds}
+use Rattle.machine.specs.Replies.{lentBy}
+use Rattle.millkettle.specs.Finding.{finding, spansLeft, counted, Finds}
 use Rattle.millkettle.specs.declared.Finding.{Finding}
 use Rattle.millkettle.specs.declared.Finding.the-variants.{Found, Missing, Refused}
 

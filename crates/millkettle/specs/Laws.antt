@@ -3,13 +3,15 @@ use mathlib.Core.Path.{_≡_, refl, sym, ap, subst, _∙_}
 use mathlib.Core.Bool.{Bool, true, false, cond}
 use mathlib.Core.Option.{Option}
 use mathlib.Core.List.{List, _++_}
-use Prim.Native.Nat.{ℕ, suc, _+_, _-_, _≤_}
+use Prim.Native.Nat.{ℕ, suc, _≤_}
 use native.Mathlib.Omega.{arith}
-use borrow.Author.Tests.{leb-true}
-use lib.Dec.{leb, ltb}
+use borrow.Author.Tests.{ltb-false}
+use lib.Dec.{ltb}
 use lib.ListN.{length, drop}
-use Rattle.meaning.specs.Limits.{depthLimit, groupLimit, rowLimit, codeWords, workspaceWords, textLimit}
-use Rattle.meaning.specs.Text.{Regs, registersOf}
+use Rattle.meaning.specs.Limits.{depthLimit, groupLimit, rowLimit, codeWords}
+use Rattle.meaning.specs.Refusals as No
+use Rattle.meaning.specs.Grounds.{none-holds}
+use Rattle.meaning.specs.Text.{Regs}
 use Rattle.meaning.specs.Bytes.{Bytes, textOf}
 use Rattle.meaning.specs.Node.{Node, Proper}
 use Rattle.meaning.specs.Numbering.{Numbers}
@@ -20,7 +22,7 @@ use Rattle.machine.specs.Laid.{program-stands}
 use Rattle.machine.specs.Words.{codeOf, codePasses, decode, rowsSaid, groupsSaid}
 use Rattle.machine.specs.Coded.{compiled-says, rowsIn-length}
 use Rattle.machine.specs.Answers.{matched, searched}
-use Rattle.machine.specs.Replies.{refusal}
+use Rattle.machine.specs.Replies.{Lent, lentGrounds, refusal, turnedAway}
 use Rattle.reading_items.specs.Facts.{fair-proper}
 use Rattle.reading_items.specs.Reading.{Reading.pattern, reading}
 use Rattle.reading_items.specs.Read.{what-is-read}
@@ -30,7 +32,6 @@ use Rattle.code_rows.specs.declared.Emission.the-variants.{Rows as Emitted, Too
 use Rattle.compiler.specs.Compiling.{answerFor, answerBy, codeLeft, compilation, codeAt}
 use Rattle.compiler.specs.Laws.{Passed, compiled-passes}
 use Rattle.compiler.specs.declared.Compilation.the-variants.{Rows}
-use Rattle.millkettle.specs.Finding.{Lent, turnedAway}
 
 -- An answer of rows and groups comes from a program.
 pub only-emitted : (n g h : ℕ) (x : Emission) → answerFor h x ≡ Rows n g → x ≡ Emitted n
@@ -126,18 +127,10 @@ module _ {code : List ℕ} {n g : ℕ} {r : Node} (m : Coded code n g r) (text :
   finds searching h = ap best (same-run searchRow) ∙ searched text g r (m .numbers) bytes (m .proper) start h
 
   -- The conditions of its runs, in order: its code passes.
-  pub conditions : (registers workspace : ℕ) → refusal code text start registers workspace
-      ≡ turnedAway n g (record { text = text; start = start; registers = registers; workspace = workspace })
+  pub conditions : (lent : Lent) → refusal code lent ≡ turnedAway n g lent
   unfolding refusal
-  conditions registers workspace = rw (m .passes, m .rows-said, m .groups-said)
+  conditions lent = rw (m .passes, m .rows-said, m .groups-said)
 
 -- What is not turned away starts inside the text.
 pub within : (n g : ℕ) (lent : Lent) → turnedAway n g lent ≡ 0 → lent .start ≤ length (lent .text)
-within n g lent = go (leb (length (lent .text)) textLimit) (leb (lent .start) (length (lent .text))) refl
-  where
-    go : (a b : Bool) → leb (lent .start) (length (lent .text)) ≡ b
-        → _≡_ {A = ℕ} (cond a (cond b (cond (leb (registersOf g) (lent .registers))
-        (cond (leb (workspaceWords n g) (lent .workspace)) 0 24) 23) 22) 21) 0 → lent .start ≤ length (lent .text)
-    go true true e f = leb-true (lent .start) (length (lent .text)) e
-    go true false e f = absurd (omega arith)
-    go false b e f = absurd (omega arith)
+within n g lent z = ltb-false _ _ (none-holds No.startBeyond (lentGrounds n g lent) refl z)

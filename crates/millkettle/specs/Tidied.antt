@@ -7,16 +7,19 @@ use mathlib.Core.List.{List, _++_}
 use Prim.Native.Nat.{ℕ, suc, _+_, _≤_}
 use native.Mathlib.Nat.{mul-le-mul-right}
 use native.Mathlib.Omega.{arith}
-use lib.Dec.{leb, ltb}
+use lib.Dec.{ltb}
 use lib.IntN.{ℤ}
 use lib.ListN.{length, drop}
-use borrow.Author.Tests.{le-leb, leb-true, le-ltb, ltb-false}
-use Rattle.meaning.specs.Limits.{depthLimit, rowLimit, codeWords, workspaceWords, textLimit}
+use borrow.Author.Tests.{le-ltb, ltb-false}
+use Rattle.meaning.specs.Limits.{depthLimit, rowLimit, codeWords, workspaceWords}
+use Rattle.meaning.specs.Refusals as No
+use Rattle.meaning.specs.Grounds.{none-holds}
 use Rattle.meaning.specs.Text.{Regs, registersOf}
 use Rattle.meaning.specs.Bytes.{Bytes, asserts, textOf}
 use Rattle.meaning.specs.Node.{Node}
 use Rattle.meaning.specs.Numbering.{Numbers}
-use Rattle.machine.specs.Replies.{Reply, Reply.found, Reply.missing, Reply.refused, answerOf, spans}
+use Rattle.machine.specs.Replies.{Reply, Reply.found, Reply.missing, Reply.refused, Lent, lentBy, lentGrounds, turnedAway}
+use Rattle.machine.specs.Replies.{answerOf, spans}
 use Rattle.tidying_laws.specs.Alike.{Alike}
 use Rattle.tidying_laws.specs.Around.{Around, fill}
 use Rattle.tidying_laws.specs.Kept.{Each}
@@ -41,7 +44,6 @@ use Rattle.compiler_tidied.specs.Compiling.{manyRows, tidiedEmission, answerBy,
 use Rattle.compiler_tidied.specs.Compiling.{tidiedCompilation, tidiedTableAt, tidiedCodeAt, CompilesTidied}
 use Rattle.compiler_tidied.specs.Laws.{Passed, compiled-passes}
 use Rattle.tidying.specs.Held.{tableOf}
-use Rattle.millkettle.specs.Finding.{Lent, lentBy, turnedAway}
 use Rattle.millkettle.specs.Laws.{only-emitted, Coded, coded, Made, made}
 use Rattle.millkettle.specs.Laws.{Way, Way.matching, Way.searching, rowOf, standardBy, within}
 use Rattle.millkettle.specs.Runs.{answers-standard}
@@ -112,22 +114,11 @@ also-tidied s table code n g bytes m =
 
 -- What is lent to a run is enough for one of fewer rows.
 enough : (n m g : ℕ) (lent : Lent) → m ≤ n → turnedAway n g lent ≡ 0 → turnedAway m g lent ≡ 0
-enough n m g lent h = go (leb (length (lent .text)) textLimit) (leb (lent .start) (length (lent .text)))
-    (leb (registersOf g) (lent .registers)) (leb (workspaceWords n g) (lent .workspace)) refl
-  where
-    few : workspaceWords m g ≤ workspaceWords n g
-    few = mul-le-mul-right (g + 2) (omega arith)
-
-    go : (a b c d : Bool) → leb (workspaceWords n g) (lent .workspace) ≡ d
-        → _≡_ {A = ℕ} (cond a (cond b (cond c (cond d 0 24) 23) 22) 21) 0
-        → _≡_ {A = ℕ} (cond a (cond b (cond c (cond (leb (workspaceWords m g) (lent .workspace)) 0 24) 23) 22) 21) 0
-    go true true true true e f =
-        rw (le-leb (workspaceWords m g) (lent .workspace) (omega
-        (arith, few, leb-true (workspaceWords n g) (lent .workspace) e)))
-    go true true true false e f = absurd (omega arith)
-    go true true false d e f = absurd (omega arith)
-    go true false c d e f = absurd (omega arith)
-    go false b c d e f = absurd (omega arith)
+enough n m g lent h z =
+    let few : workspaceWords m g ≤ workspaceWords n g = mul-le-mul-right (g + 2) (omega arith) in
+    let was = none-holds No.smallWorkspace (lentGrounds n g lent) refl z in
+    let room : workspaceWords n g ≤ lent .workspace = ltb-false _ _ was in
+    rw (le-ltb (lent .workspace) (workspaceWords m g) (omega arith)) (rw was at z)
 
 -- The standard's algorithm finds the same on the tidied pattern.
 same-standard : (way : Way) (text : List ℕ) → Bytes text → (r : Node) (n g start : ℕ) → Numbers 1 r n → start ≤ length text
