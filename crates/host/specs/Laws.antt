@@ -22,6 +22,7 @@ use Rattle.machine.specs.Replies.{Reply.refused, Lent, lend, lentBy, refusal, r
 use Rattle.machine.specs.Replies.{lentGrounds, registersAfter}
 use Rattle.running_moves.specs.Ready.{ready}
 use Rattle.reading_items.specs.Reading.{reading}
+use Rattle.compiler.specs.Compiling.{answerBy, codeLeft, Compiles}
 use Rattle.compiler.specs.declared.Compilation.{Compilation}
 use Rattle.engine.specs.Answers.{replyOf, Answered}
 use Rattle.engine.specs.Laws.{allowed}
@@ -34,7 +35,7 @@ use Rattle.meaning.specs.Limits.{tableSize, codeSize, workspaceSize}
 use Rattle.host.specs.Sizes.{registerCount}
 use Rattle.host.specs.Surface.{compiledNumbers, ranNumbers, lentWords, codeLent, allWords, allInts}
 use Rattle.host.specs.Surface.{lentTo, byteGrounds, replyLent, registersLent}
-use Rattle.host.specs.Surface.{answerAt, codeAfter, CompilesOne, CompilesBytes, RunsBytes}
+use Rattle.host.specs.Surface.{CompilesBytes, RunsBytes}
 use Rattle.host.specs.Width.{spans-length}
 use Rattle.host.specs.declared.Compiled.{Compiled}
 use Rattle.host.specs.declared.Ran.{Ran}
@@ -44,14 +45,15 @@ pub first-of : {A : Type 0} (n m : ℕ) (v : A) → n ≤ m → length (take n (
 first-of n m v h = length-take-le n (replicate m v) (rw (length-replicate m v) h)
 
 -- Words are loaded, compiled into and stored.
-pub compiles-bytes : (tidying : Bool) (s code : List ℕ) {words words′ code′ : List ℕ} {n : ℕ} {a : Compilation} {r : Compiled}
-    → words ≡ wordsOf code n → n ≡ codeLent (length code) → CompilesOne tidying s tableSize words words′ a
-    → code′ ≡ written (bytesOfWords words′) code → r ≡ compiledNumbers a → CompilesBytes tidying s code r code′
-compiles-bytes tidying s code {n = n} w e one stored r = record {
-  answers = r ∙ ap compiledNumbers (one .answers
-      ∙ ap (answerAt tidying (reading s tableSize)) (ap length w ∙ words-length code n ∙ e));
+pub compiles-bytes : (tidying : Bool) (s code : List ℕ) {table table′ words words′ code′ : List ℕ} {n : ℕ} {a : Compilation}
+    {r : Compiled} → length table ≡ tableSize → words ≡ wordsOf code n → n ≡ codeLent (length code)
+    → Compiles tidying s table table′ words words′ a → code′ ≡ written (bytesOfWords words′) code → r ≡ compiledNumbers a
+    → CompilesBytes tidying s code r code′
+compiles-bytes tidying s code {n = n} t w e made stored r = record {
+  answers = r ∙ ap compiledNumbers (made .answers
+      ∙ ap₂ (λ x y. answerBy tidying (reading s x) y) t (ap length w ∙ words-length code n ∙ e));
   code-is = stored ∙ ap (λ x. written (bytesOfWords x) code)
-      (one .code-is ∙ ap (codeAfter tidying (reading s tableSize)) (w ∙ ap (wordsOf code) e));
+      (made .code-is ∙ ap₂ (λ x y. codeLeft tidying (reading s x) y) t (w ∙ ap (wordsOf code) e));
 }
 
 -- ---- runs

@@ -1,6 +1,6 @@
 -- What the host surface passes: numbers for each answer, and bytes for words. Definitions only.
 use mathlib.Core.Path.{_≡_}
-use mathlib.Core.Bool.{Bool, cond, not, _||_}
+use mathlib.Core.Bool.{Bool, not, _||_}
 use mathlib.Core.List.{List, _∷_}
 use Prim.Native.Nat.{ℕ, _/_, min}
 use lib.Dec.{ltb}
@@ -11,9 +11,8 @@ use Rattle.meaning.specs.Grounds.{Ground, ground, firstOf}
 use Rattle.machine.specs.Steps.{Machine, best, count}
 use Rattle.machine.specs.Words.{rowsSaid, groupsSaid, codePasses}
 use Rattle.machine.specs.Replies.{Reply, valuesOf, Lent, lend, lentGrounds, runOf, replyTo, registersFrom}
-use Rattle.reading_items.specs.Reading.{Reading, reading}
+use Rattle.reading_items.specs.Reading.{reading}
 use Rattle.compiler.specs.Compiling.{answerBy, codeLeft}
-use Rattle.compiler_tidied.specs.Compiling.{answerBy as tidiedAnswerBy, codeLeft as tidiedCodeLeft}
 use Rattle.compiler.specs.declared.Compilation.{Compilation}
 use Rattle.compiler.specs.declared.Compilation.the-variants.{Rows, Refused}
 use Rattle.wire.specs.Wire.{wordsOf, intsOf, bytesOfWords, bytesOfInts, written}
@@ -43,23 +42,11 @@ lentWords bytes = bytes / 4
 abbrev pub codeLent : ℕ → ℕ
 codeLent bytes = min (lentWords bytes) codeSize
 
--- What is answered about a reading with so many words of code, and the code that is left: for the tidied pattern or the plain.
-abbrev pub answerAt : Bool → Reading → ℕ → Compilation
-answerAt tidying read = cond tidying (tidiedAnswerBy read) (answerBy read)
-
-abbrev pub codeAfter : Bool → Reading → List ℕ → List ℕ
-codeAfter tidying read = cond tidying (tidiedCodeLeft read) (codeLeft read)
-
--- The promise of compiling on words, with so many words of a table.
-pub record CompilesOne (tidying : Bool) (s : List ℕ) (table : ℕ) (code code′ : List ℕ) (r : Compilation) : Type 0 where
-  pub answers : r ≡ answerAt tidying (reading s table) (length code)
-  pub code-is : code′ ≡ codeAfter tidying (reading s table) code
-
 -- The promise of compiling on bytes: the numbers of the answer, and the code's bytes in front of those that stood behind them.
 pub record CompilesBytes (tidying : Bool) (s code : List ℕ) (r : Compiled) (code′ : List ℕ) : Type 0 where
-  pub answers : r ≡ compiledNumbers (answerAt tidying (reading s tableSize) (codeLent (length code)))
+  pub answers : r ≡ compiledNumbers (answerBy tidying (reading s tableSize) (codeLent (length code)))
   pub code-is : code′
-      ≡ written (bytesOfWords (codeAfter tidying (reading s tableSize) (wordsOf code (codeLent (length code))))) code
+      ≡ written (bytesOfWords (codeLeft tidying (reading s tableSize) (wordsOf code (codeLent (length code))))) code
 
 -- All words and registers that bytes lend.
 abbrev pub allWords : List ℕ → List ℕ

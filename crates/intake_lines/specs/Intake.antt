@@ -13,7 +13,7 @@ use Rattle.machine.specs.Steps.{searchRow}
 use Rattle.machine.specs.Words.{groupsSaid}
 use Rattle.machine.specs.Replies.{Reply, Reply.found, Reply.missing, Reply.refused, Lent, lend, reply, registersAfter}
 use Rattle.reading_items.specs.Reading.{reading}
-use Rattle.compiler.specs.Compiling.{answerBy, codeLeft}
+use Rattle.compiler.specs.Compiling.{plain, answerBy, codeLeft}
 use Rattle.compiler.specs.declared.Compilation.{Compilation}
 use Rattle.compiler.specs.declared.Compilation.the-variants.{Rows, Refused}
 use Rattle.intake_report.specs.Texts.{spansLine, headerLine, refusedAt, refusedRun, noneLine}
@@ -28,10 +28,10 @@ registerCount = registersOf groupLimit
 
 -- What becomes of a pattern line, and the code that it leaves.
 abbrev pub compiled : List ℕ → Compilation
-compiled pattern = answerBy (reading pattern tableSize) codeSize
+compiled pattern = answerBy plain (reading pattern tableSize) codeSize
 
 abbrev pub codeFrom : List ℕ → List ℕ → List ℕ
-codeFrom pattern code = codeLeft (reading pattern tableSize) code
+codeFrom pattern code = codeLeft plain (reading pattern tableSize) code
 
 -- The line for a pattern: its rows and groups, or the refusal's number and place.
 abbrev pub patternLine : Compilation → List ℕ

@@ -1,6 +1,6 @@
 -- What a search and a compilation answer, as the line that is written.
 use mathlib.Core.Path.{_≡_, refl, sym, ap, ap₂, _∙_}
-use mathlib.Core.List.{List, []}
+use mathlib.Core.List.{List}
 use Prim.Native.Nat.{ℕ, zero, suc, _≤_, _<_}
 use native.Mathlib.Omega.{arith}
 use borrow.Author.Tests.{le-leb, lt-leb}
@@ -12,7 +12,7 @@ use Rattle.machine.specs.Steps.{Machine, best, count, searchRow}
 use Rattle.machine.specs.Words.{groupsSaid}
 use Rattle.machine.specs.Replies.{Reply.found, lend, lentBy, refusal, runOf, replyTo, reply, registersAfter}
 use Rattle.reading_items.specs.Reading.{reading}
-use Rattle.compiler.specs.Compiling.{Compiles, answerBy, codeLeft}
+use Rattle.compiler.specs.Compiling.{plain, Compiles, answerBy, codeLeft}
 use Rattle.compiler.specs.declared.Compilation.{Compilation}
 use Rattle.engine.specs.Answers.{replyOf, Answered}
 use Rattle.engine.specs.Laws.{allowed}
@@ -66,13 +66,13 @@ module _ {code line work work′ : List ℕ} {before after : List ℤ} {r : Answ
 
 -- A pattern line that was compiled or refused, and the line that was written for it.
 pub pattern-ends : {pattern table table′ code code′ out out′ : List ℕ} {at : ℕ} {answer q : Compilation} {r : Ended}
-    → length table ≡ tableSize → length code ≡ codeSize → Compiles pattern table table′ code code′ answer → answer ≡ q
+    → length table ≡ tableSize → length code ≡ codeSize → Compiles plain pattern table table′ code code′ answer → answer ≡ q
     → r .phase ≡ phaseFor q → Wrote out out′ at (patternLine q) (r .end) → Ends Pattern pattern code code′ out out′ at r
 pattern-ends {pattern} {code = code} {q = q} t l w e p o =
-    let is : q ≡ compiled pattern = sym e ∙ w .answers ∙ ap₂ (λ n m. answerBy (reading pattern n) m) t l in
+    let is : q ≡ compiled pattern = sym e ∙ w .answers ∙ ap₂ (λ n m. answerBy plain (reading pattern n) m) t l in
     record {
       phase-is = p ∙ ap phaseFor is;
-      code-is = w .code-is ∙ ap (λ n. codeLeft (reading pattern n) code) t;
+      code-is = w .code-is ∙ ap (λ n. codeLeft plain (reading pattern n) code) t;
       text-is = wrote-as o (ap patternLine is) refl;
     }
 

@@ -1,5 +1,7 @@
--- What the promises of a run say of any code, and of code that says a pattern: the bound, the count, and the answer of the standard.
-use mathlib.Core.Path.{_≡_, sym, ap, ap₂, subst, _∙_}
+-- What the promises of a run say of any code, and of code that says a pattern: the bound, the count, and the answer of the
+-- standard.
+use mathlib.Core.Path.{_≡_, sym, ap, ap₂, _∙_}
+use mathlib.Core.Bool.{Bool}
 use mathlib.Core.Option.{Option, none, some}
 use mathlib.Core.List.{List, _++_}
 use Prim.Native.Nat.{ℕ, suc, _+_, _*_, _-_, _≤_}
@@ -14,12 +16,13 @@ use Rattle.machine.specs.Words.{rowsSaid, groupsSaid}
 use Rattle.machine.specs.Replies.{Reply.refused, Lent, lentBy, turnedAway, refusal, runOf, answerOf, replyTo, reply, spans}
 use Rattle.machine.specs.Replies.{registersFrom, registersAfter}
 use Rattle.reading_items.specs.Reading.{Reading.pattern, reading}
-use Rattle.compiler.specs.Compiling.{Compiles}
+use Rattle.compiler.specs.Compiling.{shaped, Compiles}
+use Rattle.compiler.specs.Compiled.{Coded, Compiled, compiled}
 use Rattle.compiler.specs.declared.Compilation.the-variants.{Rows}
 use Rattle.engine.specs.Answers.{replyOf, executed, Answered}
 use Rattle.engine.specs.declared.Answer.{Answer}
 use Rattle.engine.specs.declared.Answer.the-variants.{Found, Missing, Refused}
-use Rattle.millkettle.specs.Laws.{Coded, Made, made, Way, rowOf, standardBy, finds, conditions, within}
+use Rattle.millkettle.specs.Laws.{Way, rowOf, standardBy, finds, conditions, within}
 
 -- Demand 1: for any code, text, start and buffers, at most two rows are executed for each row and position,
 module _ {code text : List ℕ} {start row : ℕ} {registers registers′ : List ℤ} {workspace workspace′ : List ℕ} {r : Answer}
@@ -79,7 +82,7 @@ unfolding reply registersAfter
 answers-standard way {code} {text} {start} {registers} {workspace = workspace} {n = n} {g = g} {r = r} bytes m a =
     let lent : Lent = lentBy text start registers workspace in
     let M : Machine = runOf code text start (rowOf way) in
-    let same : refusal code lent ≡ turnedAway n g lent = conditions m text bytes start lent in
+    let same : refusal code lent ≡ turnedAway n g lent = conditions m lent in
     let found : turnedAway n g lent ≡ 0 → best M ≡ standardBy way text g r start
     = λ e. finds m text bytes start way (within n g lent e) in
     record {
@@ -90,23 +93,22 @@ answers-standard way {code} {text} {start} {registers} {workspace = workspace} {
       refuses = λ k e. turned-rows a k (same ∙ e) .0;
     }
 
--- So do the calls on what `compile` was given and left.
-pub record Compiled (way : Way) (s table text : List ℕ) (start n g : ℕ) (registers registers′ : List ℤ) (workspace : List ℕ)
-    (answer : Answer) : Type 0 where
+-- So do the calls on what was compiled, plain or tidied.
+pub record Answers (tidying : Bool) (way : Way) (s table text : List ℕ) (start n g : ℕ) (registers registers′ : List ℤ)
+    (workspace : List ℕ) (answer : Answer) : Type 0 where
   pub node : Node
   pub is-read : reading s (length table) ≡ pattern node g
-  pub standard : Standard way node n g text start registers registers′ workspace answer
+  pub standard : Standard way (shaped tidying node) n g text start registers registers′ workspace answer
 
-pub compiled-standard : (way : Way) {s text : List ℕ} {start : ℕ} {table table′ code code′ : List ℕ}
-    {registers registers′ : List ℤ}
-    {workspace workspace′ : List ℕ} {n g : ℕ} {answer : Answer} → Bytes s → Bytes text → Compiles s table table′ code code′
-    (Rows n g)
+pub compiled-standard : (tidying : Bool) (way : Way) {s text : List ℕ} {start : ℕ} {table table′ code code′ : List ℕ}
+    {registers registers′ : List ℤ} {workspace workspace′ : List ℕ} {n g : ℕ} {answer : Answer} → Bytes s → Bytes text
+    → Compiles tidying s table table′ code code′ (Rows n g)
     → Answered code′ text start (rowOf way) registers workspace answer registers′ workspace′
-    → Compiled way s table text start n g registers registers′ workspace answer
-compiled-standard way {s} {table = table} {code = code} {n = n} {g = g} bs bt h a =
-    let m : Made s table code n g = made s table code n g bs (sym (h .answers)) in
+    → Answers tidying way s table text start n g registers registers′ workspace answer
+compiled-standard tidying way {s} {table = table} {code = code} {n = n} {g = g} bs bt h a =
+    let m : Compiled tidying s table code n g = compiled tidying s table code n g bs (sym (h .answers)) in
     record {
       node = m .node;
       is-read = m .is-read;
-      standard = answers-standard way bt (subst (λ (c : List ℕ). Coded c n g (m .node)) (sym (h .code-is)) (m .is-coded)) a;
+      standard = answers-standard way bt (rw (h .code-is) (m .is-coded)) a;
     }
