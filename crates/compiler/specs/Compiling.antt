@@ -1,58 +1,82 @@
--- What `compile` answers and leaves behind, for every pattern, table and code. Definitions only.
+-- What `compile` and `compile_tidied` answer and leave behind, for every pattern, table and code. Definitions only.
 use mathlib.Core.Path.{_≡_}
-use mathlib.Core.List.{List}
-use Prim.Native.Nat.{ℕ}
-use lib.ListN.{length, replicate}
+use mathlib.Core.Bool.{Bool, true, false, cond}
+use mathlib.Core.List.{List, [], _∷_, _++_}
+use Prim.Native.Nat.{ℕ, zero, suc}
+use lib.Dec.{ltb}
+use lib.ListN.{length, drop, replicate}
+use Rattle.meaning.specs.Limits.{rowLimit, codeWords}
+use Rattle.meaning.specs.Refusals as No
+use Rattle.meaning.specs.Grounds.{Ground, ground, firstOf}
+use Rattle.meaning.specs.Node.{Node}
+use Rattle.machine.specs.Layout.{programOf}
+use Rattle.machine.specs.Words.{codeOf}
+use Rattle.tidying_laws.specs.Tidier.{tidy}
 use Rattle.reading_items.specs.Reading.{Reading, Reading.pattern, Reading.refused, reading, tableBy}
-use Rattle.code_rows.specs.Emission.{emission, codeEmitted}
-use Rattle.code_rows.specs.declared.Emission.{Emission}
-use Rattle.code_rows.specs.declared.Emission.the-variants.{Rows as Emitted, TooMany, TooShort}
+use Rattle.code_rows.specs.Emission.{rowsNeeded}
 use Rattle.compiler.specs.declared.Compilation.{Compilation}
 use Rattle.compiler.specs.declared.Compilation.the-variants.{Rows, Refused}
 
--- The outline's number and values for what becomes of a pattern that was read: its rows and groups; 15; 16.
-abbrev pub answerFor : ℕ → Emission → Compilation
-answerFor g (Emitted n) = Rows n g
-answerFor g TooMany = Refused 15 0
-answerFor g TooShort = Refused 16 0
+-- Whether the pattern is tidied before it becomes rows, and the pattern that becomes rows.
+abbrev pub plain : Bool
+plain = false
 
--- The table stays as the reading left it if there is a program, and is zero if there is none.
-abbrev pub tableFor : Emission → List ℕ → List ℕ
-tableFor (Emitted n) table = table
-tableFor TooMany table = replicate (length table) 0
-tableFor TooShort table = replicate (length table) 0
+abbrev pub tidied : Bool
+tidied = true
 
--- What is answered about a reading with so many words of code.
-abbrev pub answerBy : Reading → ℕ → Compilation
-answerBy (pattern r g) words = answerFor g (emission r words)
-answerBy (refused number place) words = Refused number place
+abbrev pub shaped : Bool → Node → Node
+shaped tidying r = cond tidying (tidy r) r
 
--- The table and the code that a reading leaves.
-abbrev pub tableLeft : Reading → ℕ → List ℕ → List ℕ
-tableLeft (pattern r g) words table = tableFor (emission r words) (tableBy (pattern r g) table)
-tableLeft (refused number place) words table = tableBy (refused number place) table
+-- The grounds for which a pattern that was read has no program in so many words of code, in order: too many rows, by the
+-- pattern that was read; code too short, by the one that becomes rows.
+abbrev pub programGrounds : Bool → Node → ℕ → List Ground
+programGrounds tidying r words =
+    ground No.manyRows (ltb rowLimit (rowsNeeded r))
+    ∷ ground No.shortCode (ltb words (codeWords (rowsNeeded (shaped tidying r))))
+    ∷ []
 
-abbrev pub codeLeft : Reading → List ℕ → List ℕ
-codeLeft (pattern r g) code = codeEmitted g r code
-codeLeft (refused number place) code = code
+abbrev pub unwritten : Bool → Node → ℕ → ℕ
+unwritten tidying r words = firstOf (programGrounds tidying r words)
+
+-- By the number of such a ground, 0 if there is none: the outline's number and values for each case; the table, which holds
+-- the pattern or is zero; and the code, the program's before the words that stood behind it, or as it was.
+abbrev pub answerFor : ℕ → Node → ℕ → Compilation
+answerFor zero r g = Rows (rowsNeeded r) g
+answerFor (suc number) r g = Refused (suc number) 0
+
+abbrev pub tableFor : ℕ → Node → ℕ → List ℕ → List ℕ
+tableFor zero r g table = tableBy (pattern r g) table
+tableFor (suc number) r g table = replicate (length table) 0
+
+abbrev pub codeFor : ℕ → Node → ℕ → List ℕ → List ℕ
+codeFor zero r g code = codeOf (programOf g r) ++ drop (codeWords (rowsNeeded r)) code
+codeFor (suc number) r g code = code
+
+-- What is answered about a reading with so many words of code, and the table and the code that it leaves.
+abbrev pub answerBy : Bool → Reading → ℕ → Compilation
+answerBy tidying (pattern r g) words = answerFor (unwritten tidying r words) (shaped tidying r) g
+answerBy tidying (refused number place) words = Refused number place
+
+abbrev pub tableLeft : Bool → Reading → ℕ → List ℕ → List ℕ
+tableLeft tidying (pattern r g) words table = tableFor (unwritten tidying r words) (shaped tidying r) g table
+tableLeft tidying (refused number place) words table = tableBy (refused number place) table
+
+abbrev pub codeLeft : Bool → Reading → List ℕ → List ℕ
+codeLeft tidying (pattern r g) code = codeFor (unwritten tidying r (length code)) (shaped tidying r) g code
+codeLeft tidying (refused number place) code = code
 
 -- The answer, and the table and code at exit: one each for every pattern, table and code.
-abbrev pub compilation : List ℕ → List ℕ → List ℕ → Compilation
-compilation s table code = answerBy (reading s (length table)) (length code)
+abbrev pub compilation : Bool → List ℕ → List ℕ → List ℕ → Compilation
+compilation tidying s table code = answerBy tidying (reading s (length table)) (length code)
 
-abbrev pub tableAt : List ℕ → List ℕ → List ℕ → List ℕ
-tableAt s table code = tableLeft (reading s (length table)) (length code) table
+abbrev pub tableAt : Bool → List ℕ → List ℕ → List ℕ → List ℕ
+tableAt tidying s table code = tableLeft tidying (reading s (length table)) (length code) table
 
-abbrev pub codeAt : List ℕ → List ℕ → List ℕ → List ℕ
-codeAt s table code = codeLeft (reading s (length table)) code
+abbrev pub codeAt : Bool → List ℕ → List ℕ → List ℕ → List ℕ
+codeAt tidying s table code = codeLeft tidying (reading s (length table)) code
 
--- The promise of `compile`.
-pub record Compiles (s table table′ code code′ : List ℕ) (answer : Compilation) : Type 0 where
-  pub answers : answer ≡ compilation s table code
-  pub table-is : table′ ≡ tableAt s table code
-  pub code-is : code′ ≡ codeAt s table code
-
--- A refusal that makes the table zero.
-pub record Cleared (number : ℕ) (table table′ : List ℕ) (answer : Compilation) : Type 0 where
-  pub refuses : answer ≡ Refused number 0
-  pub zero : table′ ≡ replicate (length table) 0
+-- The promise of `compile`, for the plain pattern, and of `compile_tidied`, for the tidied one.
+pub record Compiles (tidying : Bool) (s table table′ code code′ : List ℕ) (answer : Compilation) : Type 0 where
+  pub answers : answer ≡ compilation tidying s table code
+  pub table-is : table′ ≡ tableAt tidying s table code
+  pub code-is : code′ ≡ codeAt tidying s table code

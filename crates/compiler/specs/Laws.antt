@@ -1,96 +1,220 @@
--- What is read has a table that rows can be written from, and what is compiled passes the check.
-use mathlib.Core.Path.{_≡_, refl, sym, ap, ap₂, subst, subst₂, _∙_}
-use mathlib.Core.Bool.{true}
+-- What `compile` and `compile_tidied` do meets their promise.
+use mathlib.Core.Path.{_≡_, refl, sym, ap, ap₂, _∙_}
+use mathlib.Core.Bool.{Bool, true, false, cond}
 use mathlib.Core.Option.{none, some}
-use mathlib.Core.List.{List, _++_}
-use Prim.Native.Nat.{ℕ, zero, suc, _+_, _*_, _-_, _≤_}
+use mathlib.Core.List.{List, [], _++_}
+use Prim.Native.Nat.{ℕ, zero, suc, _+_, _*_, _-_, _≤_, _<_, min}
 use native.Mathlib.Omega.{arith}
-use lib.ListN.{length, take, replicate, length-append}
-use lib.Seq.{take-at}
-use Rattle.meaning.specs.Bytes.{Bytes}
-use Rattle.meaning.specs.Limits.{depthLimit}
+use lib.Dec.{ltb}
+use lib.ListN.{length, take, replicate}
+use borrow.Author.Tests.{lt-ltb, le-ltb, ltb-true, ltb-false}
+use Rattle.meaning.specs.Limits.{rowLimit, leastRows, codeWords}
+use Rattle.meaning.specs.Refusals as No
 use Rattle.meaning.specs.Node.{Node, Node.empty, Node.bset, Node.assert, Node.group, Node.seq, Node.alt, Node.many, Proper}
-use Rattle.machine.specs.Words.{codePasses}
-use Rattle.reading_items.specs.Facts.{Fair, fair-proper}
-use Rattle.reading_items.specs.Kept.{Read}
-use Rattle.reading_items.specs.Read.{atom-laws, what-is-read}
+use Rattle.meaning.specs.Numbering.{Numbers}
+use Rattle.machine.specs.Layout.{sizeOf}
+use Rattle.table.specs.Table.{recordWords, sizeCap, recordCount}
+use Rattle.table.specs.Derived.{rootOf}
+use Rattle.table.specs.Roots.{root-derived, some-records, few-records}
+use Rattle.table.specs.declared.Derived.{Derived}
+use Rattle.tidying_laws.specs.Tidy.{tidy-rows, tidy-numbers, tidy-proper}
 use Rattle.reading_items.specs.Reading.{Reading, Reading.pattern, Reading.refused, reading, tableBy, tableAfter}
-use Rattle.table.specs.Table.{recordWords, recordCount, records}
-use Rattle.table.specs.Laws.{long}
 use Rattle.reading.specs.Answers.{Reads, answerOf}
 use Rattle.reading.specs.declared.Reading.{Reading as Answer}
 use Rattle.reading.specs.declared.Reading.the-variants.{Pattern, Refused as Turned}
-use Rattle.code_rows.specs.Emits.{Counted, Stands}
 use Rattle.code_rows.specs.Program.{Tabled}
-use Rattle.code_rows.specs.Emission.{emission, SomeTabled, Emits, rowsNeeded, emitted-passes}
+use Rattle.code_rows.specs.Emission.{emission, codeEmitted, SomeTabled, Emits, rowsNeeded}
 use Rattle.code_rows.specs.declared.Emission.{Emission}
 use Rattle.code_rows.specs.declared.Emission.the-variants.{Rows as Emitted, TooMany, TooShort}
-use Rattle.compiler.specs.Compiling.{answerFor, tableFor, answerBy, tableLeft}
-use Rattle.compiler.specs.Compiling.{codeLeft, compilation, codeAt, Compiles, Cleared}
+use Rattle.tidying.specs.Held.{Held, SomeHeld, tableOf, Tidies}
+use Rattle.compiler.specs.Compiling.{shaped, unwritten, tableFor, codeFor, answerBy, tableLeft, codeLeft}
+use Rattle.compiler.specs.Compiling.{Compiles}
+use Rattle.compiler.specs.Programs.{Holds, SomeHolds, TellsRows, Shapes, Cleared, Programs}
+use Rattle.compiler.specs.Given.{Given}
 use Rattle.compiler.specs.declared.Compilation.{Compilation}
 use Rattle.compiler.specs.declared.Compilation.the-variants.{Rows, Refused}
 
--- What is fair has counts within the limit.
-counted : (r : Node) (d : ℕ) → Fair r d → Counted r
-counted empty d h = tt
-counted (bset s) d h = tt
-counted (assert a) d h = tt
-counted (group k r) zero h = absurd h
-counted (group k r) (suc d) h = counted r d h
-counted (seq r q) d h = (counted r d (h .0), counted q d (h .1))
-counted (alt r q) d h = (counted r d (h .0), counted q d (h .1))
-counted (many n none lazy r) d h = (h .0, counted r d (h .1))
-counted (many n (some e) lazy r) d h = (h .0, counted r d (h .1))
+-- ---- the pattern in the table
 
--- The records of a pattern stand in the table that its reading leaves.
-tabled-by : (table : List ℕ) (r : Node) (g : ℕ) → Fair r depthLimit → Tabled (tableBy (pattern r g) table) (recordCount r) r
-tabled-by table r g fair =
-    let proper = fair-proper r depthLimit fair in
-    let rest : List ℕ = replicate (length table - recordWords * recordCount r) 0 in
-    record {
-      stands = record {
-        below = take-at (records r) rest (recordWords * recordCount r) (long r proper);
-        room = omega (arith, length-append (records r) rest, long r proper);
-      };
-      fine = (proper, counted r depthLimit fair);
+-- The pattern that a table holds ends where its records do.
+held-tabled : {table : List ℕ} {n g p : ℕ} {r : Node} → Held table n r g p → Tabled table n r
+held-tabled h = record { stands = h .stands; proper = h .proper }
+
+-- A pattern that a table holds has a record, whose size is held just above the limit of rows.
+pub holds-some : {table : List ℕ} {n : ℕ} → SomeHolds table n → (0 < n) × (recordWords * n ≤ length table)
+holds-some s =
+    let whole = held-tabled (s .holds .held) in (
+      omega (arith, some-records whole, few-records whole),
+      whole .stands .room,
+    )
+
+held-size : {table : List ℕ} {n g p : ℕ} {r : Node} (d : Derived) → Held table n r g p → d ≡ rootOf table n
+    → d .size ≡ min (sizeOf r) sizeCap
+held-size d h e = ap (λ (x : Derived). x .size) (e ∙ root-derived (held-tabled h))
+
+pub size-small : {table : List ℕ} {n : ℕ} (d : Derived) → SomeHolds table n → d ≡ rootOf table n → d .size ≤ sizeCap
+size-small d s e = omega (arith, held-size d (s .holds .held) e)
+
+-- So it tells whether there are too many rows.
+pub tells-rows : {table : List ℕ} {n : ℕ} (d : Derived) → d ≡ rootOf table n
+    → TellsRows (ltb rowLimit (leastRows + d .size)) table n
+tells-rows d e = record { by = λ r g p h. same (sizeOf r) (held-size d (h .held) e) }
+  where
+    same : (s : ℕ) → d .size ≡ min s sizeCap → ltb rowLimit (leastRows + d .size) ≡ ltb rowLimit (leastRows + s)
+    same s f = go (ltb rowLimit (leastRows + s)) refl
+      where
+        go : (b : Bool) → ltb rowLimit (leastRows + s) ≡ b → ltb rowLimit (leastRows + d .size) ≡ ltb rowLimit (leastRows + s)
+        go true t = lt-ltb rowLimit (leastRows + d .size) (omega (arith, ltb-true rowLimit (leastRows + s) t)) ∙ sym t
+        go false t = le-ltb rowLimit (leastRows + d .size) (omega (arith, ltb-false rowLimit (leastRows + s) t)) ∙ sym t
+
+-- ---- the pattern that becomes rows
+
+-- It has the groups of the one that was read, is proper, and has no more rows.
+pub record Shaped (r q : Node) (g : ℕ) : Type 0 where
+  pub numbers : Numbers 1 q g
+  pub proper : Proper q
+  pub fewer : rowsNeeded q ≤ rowsNeeded r
+
+pub is-shaped : (tidying : Bool) (r : Node) (g : ℕ) → Numbers 1 r g → Proper r → Shaped r (shaped tidying r) g
+is-shaped true r g n p =
+    record { numbers = tidy-numbers r g n; proper = tidy-proper r g n p; fewer = omega (arith, tidy-rows r g n) }
+is-shaped false r g n p = record { numbers = n; proper = p; fewer = omega arith }
+
+-- It stands in the table: tidied there, or as it stood.
+pub held-some : {table : List ℕ} {n : ℕ} → SomeHolds table n → SomeHeld table n
+held-some s = record { node = s .node; groups = s .groups; bytes = s .bytes; held = s .holds .held }
+
+pub shapes-tidied : {tidying : Bool} {table table′ : List ℕ} {n n′ : ℕ} → tidying ≡ true → Tidies table table′ n n′
+    → Shapes tidying table table′ n n′
+shapes-tidied e t = rw e (record {
+  by = λ r g p h same. record {
+    held = t .by r g p (h .held) .held;
+    whole = t .by r g p (h .held) .table-is ∙ ap (tableOf _) (sym same);
+  };
+})
+
+pub shapes-plain : {tidying : Bool} {table : List ℕ} {n : ℕ} → tidying ≡ false → Shapes tidying table table n n
+shapes-plain e = rw e (record { by = λ r g p h same. h })
+
+-- Where it has few enough rows, the one that becomes rows has, and what is emitted of that is by the length of the code.
+module _ (tidying : Bool) (r : Node) (g : ℕ) (code : List ℕ) (few : ltb rowLimit (rowsNeeded r) ≡ false)
+    (fewer : rowsNeeded (shaped tidying r) ≤ rowsNeeded r) where
+  abbrev q : Node
+  q = shaped tidying r
+
+  few-too : ltb rowLimit (rowsNeeded q) ≡ false
+  few-too = le-ltb rowLimit (rowsNeeded q) (omega (arith, ltb-false rowLimit (rowsNeeded r) few))
+
+  abbrev Outcome : Emission → Type 0
+  Outcome (Emitted n) = (unwritten tidying r (length code) ≡ 0) × (n ≡ rowsNeeded q)
+  Outcome TooMany = ⊥
+  Outcome TooShort = unwritten tidying r (length code) ≡ No.shortCode
+
+  emits : (x : Emission) → emission q (length code) ≡ x → Outcome x
+  emits x e = go (ltb (length code) (codeWords (rowsNeeded q))) refl x (rw few-too at e)
+    where
+      go : (short : Bool) → ltb (length code) (codeWords (rowsNeeded q)) ≡ short → (x : Emission)
+          → cond short TooShort (Emitted (rowsNeeded q)) ≡ x → Outcome x
+      go true s (Emitted n) e = absurd (let z : _≡_ {A = ℕ} 0 1 = cc in omega arith)
+      go true s TooMany e = absurd (let z : _≡_ {A = ℕ} 0 1 = cc in omega arith)
+      go true s TooShort e = rw (few, s)
+      go false s (Emitted n) e = (rw (few, s), cc)
+      go false s TooMany e = absurd (let z : _≡_ {A = ℕ} 0 1 = cc in omega arith)
+      go false s TooShort e = absurd (let z : _≡_ {A = ℕ} 0 1 = cc in omega arith)
+
+  leaves : codeEmitted g q code ≡ codeFor (unwritten tidying r (length code)) q g code
+  leaves = rw (few, few-too) (go (ltb (length code) (codeWords (rowsNeeded q))))
+    where
+      go : (short : Bool) → cond short code (codeFor 0 q g code) ≡ codeFor (cond short No.shortCode 0) q g code
+      go true = refl
+      go false = refl
+
+-- ---- its program
+
+-- A table made zero from its first word on.
+pub made-zero : (table : List ℕ) {table′ : List ℕ} → table′ ≡ take 0 table ++ replicate (length table - 0) 0
+    → table′ ≡ replicate (length table) 0
+made-zero table e = let same : length table - 0 ≡ length table = omega arith in e ∙ ap (λ (n : ℕ). replicate n 0) same
+
+module _ {tidying : Bool} {table : List ℕ} {n : ℕ} where
+  -- A pattern with too many rows is refused before it is shaped.
+  pub too-many : {g : ℕ} {over : Bool} {table′ code : List ℕ} {answer : Compilation} → TellsRows over table n → over ≡ true
+      → Cleared No.manyRows table table′ answer → Programs tidying table table′ n g code code answer
+  too-many t e c = record {
+    by = λ r h p held.
+        let so : ltb rowLimit (rowsNeeded r) ≡ true = sym (t .by r h p held) ∙ e in
+        record { answers = rw so (c .refuses); table-is = rw so (c .zero); code-is = rw so };
+  }
+
+  -- One that is shaped, and its program written or not.
+  module _ {over : Bool} {table₁ : List ℕ} {left : ℕ} (t : TellsRows over table n) (few : over ≡ false)
+      (same : length table₁ ≡ length table) (s : Shapes tidying table table₁ n left) where
+    pub shaped-tabled : SomeHolds table n → SomeTabled table₁ left
+    shaped-tabled k = record {
+      node = shaped tidying (k .node);
+      tabled = held-tabled (s .by (k .node) (k .groups) (k .bytes) (k .holds) same .held);
     }
 
--- A pattern that was read, and its records in the table.
-pub record Given (s table table′ : List ℕ) (top g : ℕ) : Type 0 where
-  pub node : Node
-  pub is-read : reading s (length table) ≡ pattern node g
-  pub left : table′ ≡ tableBy (pattern node g) table
-  pub tabled : Tabled table′ top node
+    module _ {g : ℕ} {code code′ : List ℕ} {emitted : Emission} (em : Emits table₁ left g code code′ emitted) where
+      module _ (r : Node) (h p : ℕ) (held : Holds table n r h p) where
+        few-rows : ltb rowLimit (rowsNeeded r) ≡ false
+        few-rows = sym (t .by r h p held) ∙ few
 
-module _ {s table table′ : List ℕ} where
-  pub given : {answer : Answer} {top g : ℕ} → Bytes s → Reads s table table′ answer → answer ≡ Pattern top g
-      → Given s table table′ top g
-  unfolding tableAfter
-  given {answer} {top} {g} bytes r f = go (reading s (length table)) refl
-    where
-      go : (x : Reading) → reading s (length table) ≡ x → Given s table table′ top g
-      go (pattern q h) e =
-          let same : Pattern top g ≡ Pattern (recordCount q) h = sym f ∙ r .answer-is ∙ ap answerOf e in
-          let u : recordCount q ≡ top = cc in
-          let v : h ≡ g = cc in
-          let left : table′ ≡ tableBy (pattern q h) table = r .table-is ∙ ap (λ x. tableBy x table) e in
-          let fair : Fair q depthLimit = what-is-read bytes (length table) q h e .fair in
-          subst₂ (Given s table table′) u v
-          (record { node = q; is-read = e; left = left; tabled = rw left (tabled-by table q h fair) })
-      go (refused n p) e =
-          let no : Pattern top g ≡ Turned n p = sym f ∙ r .answer-is ∙ ap answerOf e in
-          absurd (let z : _≡_ {A = ℕ} 0 1 = cc in omega arith)
+        fewer : rowsNeeded (shaped tidying r) ≤ rowsNeeded r
+        fewer = is-shaped tidying r h (held .held .numbers) (held .held .proper) .fewer
 
-  pub given-some : {top g : ℕ} → Given s table table′ top g → SomeTabled table′ top
-  given-some k = record { node = k .node; tabled = k .tabled }
+        now-holds : Holds table₁ left (shaped tidying r) h p
+        now-holds = s .by r h p held same
 
+        outcome : (x : Emission) → emitted ≡ x → Outcome tidying r g code few-rows fewer x
+        outcome x e = emits tidying r g code few-rows fewer x
+            (sym (em .answers (shaped tidying r) (held-tabled (now-holds .held))) ∙ e)
+
+        code-left : code′ ≡ codeFor (unwritten tidying r (length code)) (shaped tidying r) g code
+        code-left = em .leaves (shaped tidying r) (held-tabled (now-holds .held)) ∙ leaves tidying r g code few-rows fewer
+
+      pub written : {m : ℕ} → emitted ≡ Emitted m → Programs tidying table table₁ n g code code′ (Rows m g)
+      written {m} e = record {
+        by = λ r h p held.
+            let (fine, rows) = outcome r h p held (Emitted m) e in
+            record {
+              answers = rw fine (ap (λ k. Rows k g) rows);
+              table-is = rw fine (now-holds r h p held .whole ∙ ap (tableOf (shaped tidying r)) same);
+              code-is = code-left r h p held;
+            };
+      }
+
+      pub never-many : {table′ : List ℕ} {answer : Compilation} → emitted ≡ TooMany
+          → Programs tidying table table′ n g code code′ answer
+      never-many e = record { by = λ r h p held. absurd (outcome r h p held TooMany e) }
+
+      pub too-short : {table′ : List ℕ} {answer : Compilation} → emitted ≡ TooShort → Cleared No.shortCode table₁ table′ answer
+          → Programs tidying table table′ n g code code′ answer
+      too-short e c = record {
+        by = λ r h p held.
+            let short = outcome r h p held TooShort e in
+            record {
+              answers = rw short (c .refuses);
+              table-is = rw short (c .zero ∙ ap (λ k. replicate k 0) same);
+              code-is = code-left r h p held;
+            };
+      }
+
+-- ---- the call
+
+-- What is left of a table depends on its length alone.
+same-left : (a b : List ℕ) → length a ≡ length b → (k : ℕ) (r : Node) (g : ℕ) → tableFor k r g a ≡ tableFor k r g b
+same-left a b l zero r g = ap (tableOf r) l
+same-left a b l (suc k) r g = ap (λ n. replicate n 0) l
+
+module _ {tidying : Bool} {s table table′ : List ℕ} where
   -- A pattern that is turned away as it is read.
   pub turned-away : {answer : Answer} {code : List ℕ} {n p : ℕ} → Reads s table table′ answer → answer ≡ Turned n p
-      → Compiles s table table′ code code (Refused n p)
+      → Compiles tidying s table table′ code code (Refused n p)
   unfolding tableAfter
   turned-away {answer} {code} {n} {p} r f = go (reading s (length table)) refl
     where
-      go : (x : Reading) → reading s (length table) ≡ x → Compiles s table table′ code code (Refused n p)
+      go : (x : Reading) → reading s (length table) ≡ x → Compiles tidying s table table′ code code (Refused n p)
       go (pattern q h) e =
           let no : Turned n p ≡ Pattern (recordCount q) h = sym f ∙ r .answer-is ∙ ap answerOf e in
           absurd (let z : _≡_ {A = ℕ} 0 1 = cc in omega arith)
@@ -99,69 +223,22 @@ module _ {s table table′ : List ℕ} where
           let u : n ≡ m = cc in
           let v : p ≡ o = cc in
           record {
-            answers = ap₂ Refused u v ∙ ap (λ x. answerBy x (length code)) (sym e);
-            table-is = r .table-is ∙ ap (λ x. tableBy x table) e ∙ ap (λ x. tableLeft x (length code) table) (sym e);
-            code-is = ap (λ x. codeLeft x code) (sym e);
+            answers = ap₂ Refused u v ∙ ap (λ x. answerBy tidying x (length code)) (sym e);
+            table-is = r .table-is ∙ ap (λ x. tableBy x table) e ∙ ap (λ x. tableLeft tidying x (length code) table) (sym e);
+            code-is = ap (λ x. codeLeft tidying x code) (sym e);
           }
 
-  -- What becomes of a pattern that was read.
-  pub made : {emitted : Emission} {top g : ℕ} {table″ code code′ : List ℕ} (x : Emission) → Given s table table′ top g
-      → Emits table′ top g code code′ emitted → emitted ≡ x → table″ ≡ tableFor x table′
-      → Compiles s table table″ code code′ (answerFor g x)
-  made {g = g} {code = code} x k em f t =
+  -- A pattern that was read, and what was done with it.
+  pub programmed : {table₁ code code′ : List ℕ} {top g : ℕ} {answer : Compilation} → length table₁ ≡ length table
+      → Given s table table₁ top g → Programs tidying table₁ table′ top g code code′ answer
+      → Compiles tidying s table table′ code code′ answer
+  programmed {table₁} {code} {g = g} l k done =
       let r : Node = k .node in
-      let so : x ≡ emission r (length code) = sym f ∙ em .answers r (k .tabled) in
       let back : pattern r g ≡ reading s (length table) = sym (k .is-read) in
+      let made = done .by r (suc g) (length s) (k .holds) in
       record {
-        answers = ap (answerFor g) so ∙ ap (λ y. answerBy y (length code)) back;
-        table-is = t ∙ ap₂ tableFor so (k .left) ∙ ap (λ y. tableLeft y (length code) table) back;
-        code-is = em .leaves r (k .tabled) ∙ ap (λ y. codeLeft y code) back;
+        answers = made .answers ∙ ap (λ y. answerBy tidying y (length code)) back;
+        table-is = made .table-is ∙ same-left table₁ table l (unwritten tidying r (length code)) (shaped tidying r) g
+            ∙ ap (λ y. tableLeft tidying y (length code) table) back;
+        code-is = made .code-is ∙ ap (λ y. codeLeft tidying y code) back;
       }
-
-  -- A pattern that was read and has no program.
-  pub unmade : {emitted : Emission} {top g n : ℕ} {table″ code code′ : List ℕ} {answer : Compilation} (x : Emission)
-      → Given s table table′ top g → Emits table′ top g code code′ emitted → emitted ≡ x → Cleared n table′ table″ answer
-      → Refused n 0 ≡ answerFor g x → replicate (length table′) 0 ≡ tableFor x table′ → Compiles s table table″ code code′ answer
-  unmade {table″ = table″} {code} {code′} x k em f c a t =
-      subst (λ (y : Compilation). Compiles s table table″ code code′ y) (sym (c .refuses ∙ a)) (made x k em f (c .zero ∙ t))
-
--- A table made zero from its first word on.
-pub made-zero : (table : List ℕ) {table′ : List ℕ} → table′ ≡ take 0 table ++ replicate (length table - 0) 0
-    → table′ ≡ replicate (length table) 0
-made-zero table e = let same : length table - 0 ≡ length table = omega arith in e ∙ ap (λ (n : ℕ). replicate n 0) same
-
--- Two replies to the same pattern, table and code agree.
-pub same-reply : {s table t₁ t₂ code c₁ c₂ : List ℕ} {a₁ a₂ : Compilation} → Compiles s table t₁ code c₁ a₁
-    → Compiles s table t₂ code c₂ a₂ → (a₁ ≡ a₂) × (t₁ ≡ t₂) × (c₁ ≡ c₂)
-same-reply f g = (f .answers ∙ sym (g .answers), f .table-is ∙ sym (g .table-is), f .code-is ∙ sym (g .code-is))
-
--- What is compiled passes the check, and has 8 rows more than the pattern's size.
-pub record Passed (s table code : List ℕ) (n g : ℕ) : Type 0 where
-  pub node : Node
-  pub is-read : reading s (length table) ≡ pattern node g
-  pub passes : codePasses (codeAt s table code) ≡ true
-  pub rows-are : n ≡ rowsNeeded node
-
-pub compiled-passes : (s table code : List ℕ) (n g : ℕ) → Bytes s → compilation s table code ≡ Rows n g → Passed s table code n g
-compiled-passes s table code n g bytes e = go (reading s (length table)) refl
-  where
-    answered : (r : Node) (h : ℕ) (x : Emission) → emission r (length code) ≡ x → answerFor h x ≡ Rows n g
-        → (x ≡ Emitted n) × (h ≡ g)
-    answered r h (Emitted m) f a = let u : m ≡ n = cc in (ap Emitted u, cc)
-    answered r h TooMany f a = absurd (let z : _≡_ {A = ℕ} 0 1 = cc in omega arith)
-    answered r h TooShort f a = absurd (let z : _≡_ {A = ℕ} 0 1 = cc in omega arith)
-
-    go : (x : Reading) → reading s (length table) ≡ x → Passed s table code n g
-    go (pattern r h) f =
-        let known : Read s (atom-laws bytes) r h = what-is-read bytes (length table) r h f in
-        let a = answered r h (emission r (length code)) refl (sym (ap (λ y. answerBy y (length code)) f) ∙ e) in
-        let p = emitted-passes h r code n (known .numbers) (fair-proper r depthLimit (known .fair)) (known .fewGroups) (a .0) in
-        record {
-          node = r;
-          is-read = f ∙ ap (pattern r) (a .1);
-          passes = ap (λ y. codePasses (codeLeft y code)) f ∙ p .0;
-          rows-are = p .1;
-        }
-    go (refused m o) f =
-        let no : Refused m o ≡ Rows n g = sym (ap (λ y. answerBy y (length code)) f) ∙ e in
-        absurd (let z : _≡_ {A = ℕ} 0 1 = cc in omega arith)

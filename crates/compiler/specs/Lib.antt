@@ -1,4 +1,6 @@
 pub mod Compiling
+pub mod Programs
+pub mod Charged
+pub mod Given
 pub mod Laws
-pub mod Lines
-mod Examples
+pub mod Compiled

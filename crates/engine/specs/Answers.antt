@@ -6,13 +6,12 @@ use lib.IntN.{ℤ}
 use lib.ListN.{length, getD}
 use Rattle.meaning.specs.Limits.{workspaceWords}
 use Rattle.machine.specs.Words.{rowsSaid, groupsSaid}
-use Rattle.machine.specs.Replies.{Reply, Reply.found, Reply.missing, Reply.refused, reply, registersAfter, shown}
+use Rattle.machine.specs.Replies.{Reply, Reply.found, Reply.missing, Reply.refused, valuesOf, lentBy, reply, registersAfter, shown}
 use Rattle.running_threads.specs.Threads.{regOf}
 use Rattle.engine.specs.declared.Answer.{Answer}
 use Rattle.engine.specs.declared.Answer.the-variants.{Found, Missing, Refused}
 
--- The outline's reply for each case: found or none with the count of rows executed, or turned away by a number, at place 0
--- and with count 0.
+-- The outline's reply for each case: found or none with the count of rows executed, or turned away by a number.
 abbrev pub replyOf : Answer → Reply
 replyOf (Found executed) = found executed
 replyOf (Missing executed) = missing executed
@@ -20,9 +19,7 @@ replyOf (Refused number) = refused number
 
 -- The count of rows executed.
 abbrev pub executed : Answer → ℕ
-executed (Found rows) = rows
-executed (Missing rows) = rows
-executed (Refused number) = 0
+executed r = valuesOf (replyOf r) .count
 
 -- The number that a register's word shows.
 abbrev pub shownWord : ℕ → ℤ
@@ -33,8 +30,8 @@ shownWord v = shown (regOf v)
 -- (WORKSPACE.md).
 pub record Answered (code text : List ℕ) (start row : ℕ) (registers : List ℤ) (workspace : List ℕ) (r : Answer)
     (registers′ : List ℤ) (workspace′ : List ℕ) : Type 0 where
-  pub replies : replyOf r ≡ reply code text start (length registers) (length workspace) row
-  pub spans : registers′ ≡ registersAfter code text start registers (length workspace) row
+  pub replies : replyOf r ≡ reply code (lentBy text start registers workspace) row
+  pub spans : registers′ ≡ registersAfter code (lentBy text start registers workspace) row registers
   pub long : length workspace′ ≡ length workspace
   pub later : (i : ℕ) → workspaceWords (rowsSaid code) (groupsSaid code) ≤ i → getD workspace′ i 0 ≡ getD workspace i 0
   pub untouched : (number : ℕ) → r ≡ Refused number → workspace′ ≡ workspace

@@ -1,38 +1,39 @@
 -- Refusals in their order, and what a run that was not turned away leaves.
 use mathlib.Core.Path.{_≡_, refl, sym, ap, ap₂, _∙_, subst}
-use mathlib.Core.Bool.{Bool, true, false, cond, true≢false}
-use mathlib.Core.Option.{Option, none, some}
+use mathlib.Core.Bool.{Bool, true, false}
+use mathlib.Core.Option.{none}
 use mathlib.Core.List.{List, [], _∷_, _++_, map}
 use Prim.Native.Nat.{ℕ, zero, suc, _+_, _*_, _-_, _<_, _≤_}
-use native.Mathlib.Nat.{mul-le-mul, not-suc-le-zero}
+use native.Mathlib.Nat.{mul-le-mul}
 use native.Mathlib.Numerals.{add-one}
 use native.Mathlib.Omega.{arith}
-use borrow.Author.Tests.{le-leb, lt-leb, leb-true, lt-ltb, le-ltb}
-use lib.Dec.{leb}
+use borrow.Author.Tests.{not-false, ltb-false, lt-ltb, le-ltb}
 use lib.IntN.{ℤ, pos, negsuc}
 use lib.Signed.{mag}
 use mir.Syntax.{w32}
 use mir.Val.{toZ, ofZ}
 use mir.Facts.{toZ-ofZ}
-use lib.ListN.{length, getD, set, take, drop, replicate, length-append, length-map}
-use lib.Seq.{take-suc, drop-cons, getD-take, getD-drop, set-at, length-take-le}
-use Rattle.meaning.specs.Text.{Regs, registersOf}
+use lib.ListN.{length, getD, set, take, drop, replicate, length-map}
+use lib.Seq.{take-suc, drop-cons, getD-drop, set-at}
+use Rattle.meaning.specs.Text.{registersOf}
 use Rattle.meaning.specs.Bytes.{textOf}
-use Rattle.meaning.specs.Limits.{textLimit, positionLimit, workspaceWords, leastRows}
+use Rattle.meaning.specs.Limits.{textLimit, positionLimit, workspaceWords, leastRows, rowLimit, groupLimit}
+use Rattle.meaning.specs.Refusals as No
+use Rattle.meaning.specs.Grounds.{Tells, told, none-holds}
 use Rattle.machine.specs.Steps.{Machine, best, count}
 use Rattle.machine.specs.Words.{rowsSaid, groupsSaid, decode, codePasses}
 use Rattle.machine.specs.Coded.{rowsIn-length}
 use Rattle.machine.specs.Passed.{run-frugal}
-use Rattle.machine.specs.Replies.{Reply, Reply.found, Reply.missing, Reply.refused, refusal, runOf, answerOf, replyTo}
-use Rattle.machine.specs.Replies.{reply, shown, spans, registersFrom, registersAfter}
-use Rattle.running_moves.specs.Ready.{Ready, ready}
+use Rattle.machine.specs.Replies.{Lent, lentBy, runGrounds, refusal, runOf}
+use Rattle.machine.specs.Replies.{answerOf, replyTo, reply, shown, spans, registersFrom, registersAfter}
+use Rattle.running_moves.specs.Ready.{ready}
 use Rattle.running_threads.specs.Words.{wordsAt}
 use Rattle.running_threads.specs.Threads.{nowhere, regOf}
-use Rattle.running_threads.specs.Laws.{words-at, words-length}
+use Rattle.running_threads.specs.Laws.{words-length}
 use Rattle.running_settle.specs.Moved.{bestOf}
 use Rattle.running.specs.Ran.{RanAs}
 use Rattle.running.specs.declared.Ran.{Ran}
-use Rattle.engine.specs.Answers.{replyOf, executed, shownWord, Answered}
+use Rattle.engine.specs.Answers.{shownWord, Answered}
 use Rattle.engine.specs.declared.Answer.{Answer}
 use Rattle.engine.specs.declared.Answer.the-variants.{Found, Missing, Refused}
 
@@ -42,94 +43,35 @@ use Rattle.engine.specs.declared.Answer.the-variants.{Found, Missing, Re
 pub text-small : textLimit + 2 < positionLimit
 text-small = omega arith
 
-module _ (code text : List ℕ) (start registers workspace : ℕ) where
-  pub refuses-code : codePasses code ≡ false → 20 ≡ refusal code text start registers workspace
-  unfolding refusal
-  refuses-code e = rw e
-
-  module _ (p : codePasses code ≡ true) where
-    pub refuses-text : textLimit < length text → 21 ≡ refusal code text start registers workspace
-    unfolding refusal
-    refuses-text h = rw (p, lt-leb (length text) textLimit h)
-
-    module _ (t : length text ≤ textLimit) where
-      pub refuses-start : length text < start → 22 ≡ refusal code text start registers workspace
-      unfolding refusal
-      refuses-start h = rw (p, le-leb (length text) textLimit t, lt-leb start (length text) h)
-
-      module _ (s : start ≤ length text) where
-        pub refuses-registers : registers < registersOf (groupsSaid code) → 23 ≡ refusal code text start registers workspace
-        unfolding refusal
-        refuses-registers h = rw (
-          p,
-          le-leb (length text) textLimit t,
-          le-leb start (length text) s,
-          lt-leb (registersOf (groupsSaid code)) registers h,
-        )
-
-        module _ (r : registersOf (groupsSaid code) ≤ registers) where
-          pub refuses-workspace : workspace < workspaceWords (rowsSaid code) (groupsSaid code)
-              → 24 ≡ refusal code text start registers workspace
-          unfolding refusal
-          refuses-workspace h =
-              rw (
-                p,
-                le-leb (length text) textLimit t,
-                le-leb start (length text) s,
-                le-leb (registersOf (groupsSaid code)) registers r,
-                lt-leb (workspaceWords (rowsSaid code) (groupsSaid code)) workspace h,
-              )
-
-          pub refuses-nothing : workspaceWords (rowsSaid code) (groupsSaid code) ≤ workspace
-              → 0 ≡ refusal code text start registers workspace
-          unfolding refusal
-          refuses-nothing h =
-              rw (
-                p,
-                le-leb (length text) textLimit t,
-                le-leb start (length text) s,
-                le-leb (registersOf (groupsSaid code)) registers r,
-                le-leb (workspaceWords (rowsSaid code) (groupsSaid code)) workspace h,
-              )
+-- A call is turned away by the first number whose ground holds, and by 0 if none does.
+pub turned : (number : ℕ) (code : List ℕ) (lent : Lent) → Tells (runGrounds code lent) number → number ≡ refusal code lent
+unfolding refusal
+turned number code lent t = told number (runGrounds code lent) t
 
 -- What holds of a call that is not turned away.
-pub record Allowed (code text : List ℕ) (start registers workspace : ℕ) : Type 0 where
+pub record Allowed (code : List ℕ) (lent : Lent) : Type 0 where
   pub passes : codePasses code ≡ true
-  pub short : length text ≤ textLimit
-  pub inside : start ≤ length text
-  pub enough : registersOf (groupsSaid code) ≤ registers
-  pub room : workspaceWords (rowsSaid code) (groupsSaid code) ≤ workspace
+  pub short : length (lent .text) ≤ textLimit
+  pub inside : lent .start ≤ length (lent .text)
+  pub enough : registersOf (groupsSaid code) ≤ lent .registers
+  pub room : workspaceWords (rowsSaid code) (groupsSaid code) ≤ lent .workspace
 
-abbrev choices : Bool → Bool → Bool → Bool → Bool → ℕ
-choices a b c d e = cond a (cond b (cond c (cond d (cond e 0 24) 23) 22) 21) 20
-
-chosen-none : (a b c d e : Bool) → choices a b c d e ≡ 0 → (a ≡ true) × (b ≡ true) × (c ≡ true) × (d ≡ true) × (e ≡ true)
-chosen-none true true true true true z = (refl, refl, refl, refl, refl)
-chosen-none true true true true false z = absurd (omega arith)
-chosen-none true true true false e z = absurd (omega arith)
-chosen-none true true false d e z = absurd (omega arith)
-chosen-none true false c d e z = absurd (omega arith)
-chosen-none false b c d e z = absurd (omega arith)
-
-pub allowed : (code text : List ℕ) (start registers workspace : ℕ) → refusal code text start registers workspace ≡ 0
-    → Allowed code text start registers workspace
+pub allowed : (code : List ℕ) (lent : Lent) → refusal code lent ≡ 0 → Allowed code lent
 unfolding refusal
-allowed code text start registers workspace z =
-    let f = chosen-none (codePasses code) (leb (length text) textLimit) (leb start (length text))
-    (leb (registersOf (groupsSaid code)) registers)
-    (leb (workspaceWords (rowsSaid code) (groupsSaid code)) workspace) z in
-    record {
-      passes = f .0;
-      short = leb-true _ _ (f .1);
-      inside = leb-true _ _ (f .2);
-      enough = leb-true _ _ (f .3);
-      room =
-          leb-true _ _ (f .4);
-    }
+allowed code lent z = record {
+  passes = not-false _ (none-holds No.codeFails (runGrounds code lent) refl z);
+  short = ltb-false _ _ (none-holds No.longText (runGrounds code lent) refl z);
+  inside = ltb-false _ _ (none-holds No.startBeyond (runGrounds code lent) refl z);
+  enough = ltb-false _ _ (none-holds No.fewRegisters (runGrounds code lent) refl z);
+  room = ltb-false _ _ (none-holds No.smallWorkspace (runGrounds code lent) refl z);
+}
 
 -- The words that a run needs are few.
-pub words-few : (n g : ℕ) → n ≤ 1024 → g ≤ 1024 → 16 * n * (g + 2) ≤ 16809984
-words-few n g a b = let d : 16 * n ≤ 16384 = omega arith in let e : g + 2 ≤ 1026 = omega arith in mul-le-mul d e
+pub words-few : (n g : ℕ) → n ≤ rowLimit → g ≤ groupLimit → workspaceWords n g ≤ workspaceWords rowLimit groupLimit
+words-few n g a b =
+    let rows : 16 * n ≤ 16 * rowLimit = omega arith in
+    let groups : g + 2 ≤ groupLimit + 2 = omega arith in
+    mul-le-mul rows groups
 
 -- ---- registers
 
@@ -189,93 +131,77 @@ spans-are g false words h = ap (map shownWord) (h refl) ∙ map-unset (registers
 -- ---- the answer
 
 module _ (code text : List ℕ) (start row : ℕ) (before : List ℤ) (workspace : List ℕ) where
-  abbrev why : ℕ
-  why = refusal code text start (length before) (length workspace)
+  abbrev lent : Lent
+  lent = lentBy text start before workspace
 
-  refused-reply : (number : ℕ) → number ≡ why → (number ≡ 0 → ⊥)
-      → refused number ≡ reply code text start (length before) (length workspace) row
-  unfolding reply
-  refused-reply zero e ne = absurd (ne refl)
-  refused-reply (suc number) e ne = ap (λ (k : ℕ). replyTo k (runOf code text start row)) e
+  abbrev M : Machine
+  M = runOf code text start row
 
-  refused-registers : (number : ℕ) → number ≡ why → (number ≡ 0 → ⊥)
-      → before ≡ registersAfter code text start before (length workspace) row
-  unfolding registersAfter
-  refused-registers zero e ne = absurd (ne refl)
-  refused-registers (suc number) e ne = ap
-      (λ (k : ℕ). registersFrom k (groupsSaid code) (runOf code text start row) before) e
-
-  -- a call that is turned away
-  pub refused-answer : (number : ℕ) → number ≡ why → (number ≡ 0 → ⊥)
+  -- A call that is turned away.
+  pub refused-answer : (number : ℕ) → number ≡ refusal code lent → (number ≡ 0 → ⊥)
       → Answered code text start row before workspace (Refused number) before workspace
-  refused-answer number e ne =
-      record {
-        replies = refused-reply number e ne;
-        spans = refused-registers number e ne;
-        long = refl;
-        later = λ i h. refl;
-        untouched = λ k z. refl;
-        bounded = omega arith;
-      }
+  unfolding reply registersAfter
+  refused-answer zero e ne = absurd (ne refl)
+  refused-answer (suc number) e ne = record {
+    replies = ap (λ k. replyTo k (best M) (count M)) e;
+    spans = ap (λ k. registersFrom k (groupsSaid code) (best M) before) e;
+    long = refl;
+    later = λ i h. refl;
+    untouched = λ k z. refl;
+    bounded = omega arith;
+  }
 
-  -- a call that is not
-  module _ (none-why : why ≡ 0) (low : row < leastRows) (after : List ℕ) (long : length after ≡ length workspace)
+  -- A call that is not.
+  module _ (none-why : refusal code lent ≡ 0) (low : row < leastRows) (after : List ℕ) (long : length after ≡ length workspace)
       (ran : Ran) (w : RanAs code text start row workspace after ran) where
-    abbrev M : Machine
-    M = runOf code text start row
-
     abbrev words : List ℕ
     words = wordsAt after (ran .best) (ran .width)
 
-    reply-is : (f : Bool) → ran .found ≡ f
-        → answerOf (bestOf f words none) (ran .count) ≡ reply code text start (length before) (length workspace) row
+    reply-is : (f : Bool) → ran .found ≡ f → answerOf (bestOf f words none) (ran .count) ≡ reply code lent row
     unfolding reply
-    reply-is f e = ap₂ answerOf (ap (λ (b : Bool). bestOf b words none) (sym e) ∙ sym (w .result)) (sym (w .count))
-        ∙ ap (λ (k : ℕ). replyTo k M) (sym none-why)
+    reply-is f e = ap₂ answerOf (ap (λ b. bestOf b words none) (sym e) ∙ sym (w .result)) (sym (w .count))
+        ∙ ap (λ k. replyTo k (best M) (count M)) (sym none-why)
 
-    registers-are : map shownWord words ++ drop (ran .width) before ≡ registersAfter code text start before
-        (length workspace) row
+    registers-are : map shownWord words ++ drop (ran .width) before ≡ registersAfter code lent row before
     unfolding registersAfter
     registers-are =
-        ap₂ (λ (xs : List ℤ) (k : ℕ). xs ++ drop k before)
-        (spans-are (groupsSaid code) (ran .found) words (λ z. w .unset z ∙ ap (λ (k : ℕ). replicate k nowhere) (w .width))
+        ap₂ (λ xs k. xs ++ drop k before)
+        (spans-are (groupsSaid code) (ran .found) words (λ z. w .unset z ∙ ap (λ k. replicate k nowhere) (w .width))
         ∙ ap (spans (groupsSaid code)) (sym (w .result))) (w .width)
-        ∙ ap (λ (k : ℕ). registersFrom k (groupsSaid code) M before) (sym none-why)
+        ∙ ap (λ k. registersFrom k (groupsSaid code) (best M) before) (sym none-why)
 
     frugal : ran .count ≤ 2 * rowsSaid code * (length text - start + 1)
     frugal =
-        let a = allowed code text start (length before) (length workspace) none-why in
+        let a = allowed code lent none-why in
         let r = ready code (a .passes) in
         let e = rowsIn-length code (rowsSaid code) 0 in
         subst (λ (k : ℕ). ran .count ≤ 2 * k * (length text - start + 1)) e
         (subst (λ (k : ℕ). k ≤ 2 * length (decode code .rows) * (length text - start + 1)) (w .count)
         (run-frugal (decode code) (r .rows) (textOf text) start row (omega (arith, r .least)) (a .inside)))
 
-    pub found-answer : ran .found ≡ true
-        → Answered code text start row before workspace (Found (ran .count))
-        (map shownWord words ++ drop (ran .width) before) after
-    found-answer e =
-        record {
-          replies = reply-is true e;
-          spans = registers-are;
-          long = long;
-          later = w .tail;
-          untouched = λ k z. absurd (let y : _≡_ {A = ℕ} 0 1 = cc in omega arith);
-          bounded = frugal;
-        }
+    -- The answer by what was found.
+    abbrev answer : Bool → Answer
+    answer true = Found (ran .count)
+    answer false = Missing (ran .count)
 
-    pub missing-answer : ran .found ≡ false
-        → Answered code text start row before workspace (Missing (ran .count))
-        (map shownWord words ++ drop (ran .width) before) after
-    missing-answer e =
-        record {
-          replies = reply-is false e;
-          spans = registers-are;
-          long = long;
-          later = w .tail;
-          untouched = λ k z. absurd (let y : _≡_ {A = ℕ} 0 1 = cc in omega arith);
-          bounded = frugal;
-        }
+    pub ran-answer : (f : Bool) → ran .found ≡ f
+        → Answered code text start row before workspace (answer f) (map shownWord words ++ drop (ran .width) before) after
+    ran-answer true e = record {
+      replies = reply-is true e;
+      spans = registers-are;
+      long = long;
+      later = w .tail;
+      untouched = λ k z. absurd (let y : _≡_ {A = ℕ} 0 1 = cc in omega arith);
+      bounded = frugal;
+    }
+    ran-answer false e = record {
+      replies = reply-is false e;
+      spans = registers-are;
+      long = long;
+      later = w .tail;
+      untouched = λ k z. absurd (let y : _≡_ {A = ℕ} 0 1 = cc in omega arith);
+      bounded = frugal;
+    }
 
 -- what holds of registers holds of equal ones
 pub with-registers : {code text : List ℕ} {start row : ℕ} {before after after′ : List ℤ} {workspace left : List ℕ} {r : Answer}

@@ -1,11 +1,11 @@
 // The engine: a pattern's code matched at a position of a text, or searched from it on, in lent words alone.
 ghost use mathlib.Core.Path.{_≡_};
 ghost use mathlib.Core.List.{_++_, map};
-ghost use Prim.Native.Nat.{ℕ, _+_, _<_, _≤_};
+ghost use Prim.Native.Nat.{_+_, _<_, _≤_};
 ghost use lib.ListN.{length, drop};
 ghost use Rattle.meaning.specs.Limits.{leastRows};
 ghost use Rattle.machine.specs.Steps.{searchRow, matchRow};
-ghost use Rattle.machine.specs.Replies.{refusal, shown};
+ghost use Rattle.machine.specs.Replies.{lend, refusal, shown};
 ghost use Rattle.running_threads.specs.Words.{wordsAt};
 ghost use Rattle.running_threads.specs.Threads.{regOf};
 ghost use Rattle.engine.specs.Answers.{shownWord, Answered};
@@ -30,7 +30,7 @@ pub enum Answer {
 
 // The number by which a run is turned away, the first in order that holds; 0 if it is not.
 fn turned_away(code: &[u32], text: &[u8], start: usize, registers: usize, workspace: usize) -> u32
-    ensures { λ r. ⌜ r ≡ refusal (now (code .entry)) (now (text .entry)) start registers workspace ⌝ }
+    ensures { λ r. ⌜ r ≡ refusal (now (code .entry)) (lend (now (text .entry)) start registers workspace) ⌝ }
 {
     if !code_check::check(code) {
         return CODE_FAILS;

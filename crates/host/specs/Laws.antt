@@ -1,23 +1,28 @@
 -- How the parts of a call on bytes come together.
-use mathlib.Core.Path.{_≡_, refl, sym, ap, _∙_}
-use mathlib.Core.Bool.{Bool, true, false, cond}
+use mathlib.Core.Path.{_≡_, refl, sym, ap, ap₂, _∙_}
+use mathlib.Core.Bool.{Bool, not}
+use mathlib.Core.Option.{Option}
 use mathlib.Core.List.{List}
 use Prim.Native.Nat.{ℕ, zero, suc, _≤_, _<_, min}
-use native.Mathlib.Decide.{decLe}
+use native.Mathlib.Decide.{decLt}
 use native.Mathlib.Omega.{arith}
-use borrow.Author.Tests.{le-leb, lt-leb, lt-ltb, le-ltb}
-use lib.Dec.{leb}
+use borrow.Author.Tests.{not-false, lt-ltb, le-ltb}
+use lib.Dec.{ltb}
 use lib.IntN.{ℤ}
 use lib.ListN.{length, take, replicate, length-replicate}
 use lib.Seq.{length-take-le}
-use Rattle.meaning.specs.Text.{registersOf}
+use Rattle.meaning.specs.Text.{Regs, registersOf}
 use Rattle.meaning.specs.Bytes.{Bytes, textOf}
-use Rattle.meaning.specs.Limits.{textLimit, workspaceWords}
+use Rattle.meaning.specs.Limits.{groupLimit}
+use Rattle.meaning.specs.Refusals as No
+use Rattle.meaning.specs.Grounds.{ground, firstOf, same-behind}
 use Rattle.machine.specs.Words.{rowsSaid, groupsSaid, decode, codePasses}
-use Rattle.machine.specs.Steps.{Machine, best}
-use Rattle.machine.specs.Replies.{Reply.refused, refusal, replyTo, runOf, reply, spans, registersFrom, registersAfter}
+use Rattle.machine.specs.Steps.{Machine, best, count}
+use Rattle.machine.specs.Replies.{Reply.refused, Lent, lend, lentBy, refusal, replyTo, runOf, reply, spans, registersFrom}
+use Rattle.machine.specs.Replies.{lentGrounds, registersAfter}
 use Rattle.running_moves.specs.Ready.{ready}
 use Rattle.reading_items.specs.Reading.{reading}
+use Rattle.compiler.specs.Compiling.{answerBy, codeLeft, Compiles}
 use Rattle.compiler.specs.declared.Compilation.{Compilation}
 use Rattle.engine.specs.Answers.{replyOf, Answered}
 use Rattle.engine.specs.Laws.{allowed}
@@ -29,7 +34,8 @@ use Rattle.wire.specs.Written.{ints-over, ints-same}
 use Rattle.meaning.specs.Limits.{tableSize, codeSize, workspaceSize}
 use Rattle.host.specs.Sizes.{registerCount}
 use Rattle.host.specs.Surface.{compiledNumbers, ranNumbers, lentWords, codeLent, allWords, allInts}
-use Rattle.host.specs.Surface.{answerAt, codeAfter, CompilesOne, CompilesBytes, RunsBytes}
+use Rattle.host.specs.Surface.{lentTo, byteGrounds, replyLent, registersLent}
+use Rattle.host.specs.Surface.{CompilesBytes, RunsBytes}
 use Rattle.host.specs.Width.{spans-length}
 use Rattle.host.specs.declared.Compiled.{Compiled}
 use Rattle.host.specs.declared.Ran.{Ran}
@@ -39,43 +45,18 @@ pub first-of : {A : Type 0} (n m : ℕ) (v : A) → n ≤ m → length (take n (
 first-of n m v h = length-take-le n (replicate m v) (rw (length-replicate m v) h)
 
 -- Words are loaded, compiled into and stored.
-pub compiles-bytes : (tidying : Bool) (s code : List ℕ) {words words′ code′ : List ℕ} {n : ℕ} {a : Compilation} {r : Compiled}
-    → words ≡ wordsOf code n → n ≡ codeLent (length code) → CompilesOne tidying s tableSize words words′ a
-    → code′ ≡ written (bytesOfWords words′) code → r ≡ compiledNumbers a → CompilesBytes tidying s code r code′
-compiles-bytes tidying s code {n = n} w e one stored r = record {
-  answers = r ∙ ap compiledNumbers (one .answers
-      ∙ ap (answerAt tidying (reading s tableSize)) (ap length w ∙ words-length code n ∙ e));
+pub compiles-bytes : (tidying : Bool) (s code : List ℕ) {table table′ words words′ code′ : List ℕ} {n : ℕ} {a : Compilation}
+    {r : Compiled} → length table ≡ tableSize → words ≡ wordsOf code n → n ≡ codeLent (length code)
+    → Compiles tidying s table table′ words words′ a → code′ ≡ written (bytesOfWords words′) code → r ≡ compiledNumbers a
+    → CompilesBytes tidying s code r code′
+compiles-bytes tidying s code {n = n} t w e made stored r = record {
+  answers = r ∙ ap compiledNumbers (made .answers
+      ∙ ap₂ (λ x y. answerBy tidying (reading s x) y) t (ap length w ∙ words-length code n ∙ e));
   code-is = stored ∙ ap (λ x. written (bytesOfWords x) code)
-      (one .code-is ∙ ap (codeAfter tidying (reading s tableSize)) (w ∙ ap (wordsOf code) e));
+      (made .code-is ∙ ap₂ (λ x y. codeLeft tidying (reading s x) y) t (w ∙ ap (wordsOf code) e));
 }
 
 -- ---- runs
-
--- No code that passes the check needs more registers than there is room for, so those beyond make no difference.
-pub refusal-room : (code text : List ℕ) (start n workspace : ℕ)
-    → refusal code text start (min n registerCount) workspace ≡ refusal code text start n workspace
-unfolding refusal
-refusal-room code text start n workspace = go (codePasses code) refl
-  where
-    g : ℕ
-    g = groupsSaid code
-
-    rest : ℕ → ℕ
-    rest registers =
-        cond (leb (length text) textLimit)
-        (cond (leb start (length text))
-        (cond (leb (registersOf g) registers) (cond (leb (workspaceWords (rowsSaid code) g) workspace) 0 24) 23) 22) 21
-
-    same : registersOf g ≤ registerCount → leb (registersOf g) (min n registerCount) ≡ leb (registersOf g) n
-    same h = by (decLe (registersOf g) n)
-      where
-        by : Dec (registersOf g ≤ n) → leb (registersOf g) (min n registerCount) ≡ leb (registersOf g) n
-        by (yes l) = le-leb (registersOf g) (min n registerCount) (omega arith) ∙ sym (le-leb (registersOf g) n l)
-        by (no l) = lt-leb (registersOf g) (min n registerCount) (omega arith) ∙ sym (lt-leb (registersOf g) n (omega arith))
-
-    go : (b : Bool) → codePasses code ≡ b → cond b (rest (min n registerCount)) 20 ≡ cond b (rest n) 20
-    go false e = refl
-    go true e = let few = ready code e .groups in rw (same (omega arith))
 
 -- The registers that are lent, and those inside: the first of them, as many as any run writes.
 abbrev lent : List ℕ → ℕ
@@ -87,78 +68,87 @@ used registers = min (lent registers) registerCount
 abbrev inside : List ℕ → List ℤ
 inside registers = intsOf registers (used registers)
 
-module _ (registers : List ℕ) (b : Bytes registers) (g : ℕ) (M : Machine) (w : length (spans g (best M)) ≡ registersOf g) where
+module _ (registers : List ℕ) (b : Bytes registers) (g : ℕ) (result : Option Regs)
+    (w : length (spans g result) ≡ registersOf g) where
   -- What a run writes into the first is what it writes into all.
   first-registers : (number : ℕ) → (number ≡ 0 → registersOf g ≤ used registers)
-      → written (bytesOfInts (registersFrom number g M (inside registers))) registers
-      ≡ written (bytesOfInts (registersFrom number g M (allInts registers))) registers
+      → written (bytesOfInts (registersFrom number g result (inside registers))) registers
+      ≡ written (bytesOfInts (registersFrom number g result (allInts registers))) registers
   first-registers (suc number) enough =
       ints-same registers (used registers) (b .byte) (omega arith)
       ∙ sym (ints-same registers (lent registers) (b .byte) (omega arith))
   first-registers zero enough =
       let h = enough refl in
-      ints-over registers (used registers) (b .byte) (omega arith) (spans g (best M)) (registersOf g) w h
-      ∙ sym (ints-over registers (lent registers) (b .byte) (omega arith) (spans g (best M)) (registersOf g) w (omega arith))
+      ints-over registers (used registers) (b .byte) (omega arith) (spans g result) (registersOf g) w h
+      ∙ sym (ints-over registers (lent registers) (b .byte) (omega arith) (spans g result) (registersOf g) w (omega arith))
 
 -- A run on bytes, with words and registers loaded and the registers stored.
 module _ (row : ℕ) (code text : List ℕ) (start : ℕ) (registers : List ℕ) (b : Bytes registers) where
   abbrev held : List ℕ
   held = allWords code
 
+  abbrev M : Machine
+  M = runOf held text start row
+
   abbrev number : ℕ
-  number = refusal held text start (lent registers) workspaceSize
+  number = firstOf (byteGrounds code (lentTo text start registers))
 
-  enough : number ≡ 0 → registersOf (groupsSaid held) ≤ used registers
-  enough e =
-      let a = allowed held text start (lent registers) workspaceSize e in
-      let few = ready held (a .passes) .groups in
-      let all = a .enough in
-      omega arith
-
-  -- The number is that of the words inside.
-  inside-number : refusal held text start (length (inside registers)) workspaceSize ≡ number
-  inside-number = ap (λ n. refusal held text start n workspaceSize) (ints-length registers (used registers))
-      ∙ refusal-room held text start (lent registers) workspaceSize
-
-  inside-reply : reply held text start (length (inside registers)) workspaceSize row
-      ≡ reply held text start (lent registers) workspaceSize row
-  unfolding reply
-  inside-reply = ap (λ n. replyTo n (runOf held text start row)) inside-number
-
-  inside-registers :
-      written (bytesOfInts (registersAfter held text start (inside registers) workspaceSize row)) registers
-      ≡ written (bytesOfInts (registersAfter held text start (allInts registers) workspaceSize row)) registers
-  unfolding registersAfter
-  inside-registers =
-      let g : ℕ = groupsSaid held in
-      let M : Machine = runOf held text start row in
-      let all : refusal held text start (length (allInts registers)) workspaceSize ≡ number
-      = ap (λ n. refusal held text start n workspaceSize) (ints-length registers (lent registers)) in
-      rw (all, inside-number)
-      (first-registers registers b g M (spans-length (textOf text) (decode held) start row) number enough)
+  -- The call inside: as many registers as any run writes.
+  abbrev called : Lent
+  called = lend text start (used registers) workspaceSize
 
   -- Too much code is turned away.
-  pub turns-away : codeSize < lentWords (length code) → {r : Ran} → r ≡ ranNumbers (refused 20)
+  pub turns-away : codeSize < lentWords (length code) → {r : Ran} → r ≡ ranNumbers (refused No.codeFails)
       → RunsBytes row code text start registers r registers
-  turns-away h r = record { replies = rw (lt-ltb _ _ h) r; spans = rw (lt-ltb _ _ h) }
+  turns-away h r = record {
+    replies = rw (lt-ltb _ _ h) r;
+    spans = rw (lt-ltb _ _ h) (sym (ints-same registers (lent registers) (b .byte) (omega arith)));
+  }
 
-  -- Any other call answers what the run inside answers.
-  pub runs-bytes : lentWords (length code) ≤ codeSize → {words work work′ registers′ : List ℕ} {ints ints′ : List ℤ} {n m : ℕ}
-      {a : Answer} {r : Ran} → words ≡ wordsOf code n → n ≡ lentWords (length code) → ints ≡ intsOf registers m
-      → m ≡ used registers → length work ≡ workspaceSize → Answered words text start row ints work a ints′ work′
-      → registers′ ≡ written (bytesOfInts ints′) registers → r ≡ ranNumbers (replyOf a)
-      → RunsBytes row code text start registers r registers′
-  runs-bytes h {work = work} {ints = ints} w e i f k a s r =
-      let words-are = w ∙ ap (wordsOf code) e in
-      let ints-are = i ∙ ap (intsOf registers) f in
-      let left = a .spans ∙ ap (λ x. registersAfter x text start ints (length work) row) words-are
-      ∙ ap (λ x. registersAfter held text start x (length work) row) ints-are
-      ∙ ap (λ x. registersAfter held text start (inside registers) x row) k in
-      record {
-        replies = rw (le-ltb _ _ h) (r ∙ ap ranNumbers (a .replies
-            ∙ ap (λ x. reply x text start (length ints) (length work) row) words-are
-            ∙ ap (λ x. reply held text start (length x) (length work) row) ints-are
-            ∙ ap (λ x. reply held text start (length (inside registers)) x row) k ∙ inside-reply));
-        spans = rw (le-ltb _ _ h) (s ∙ ap (λ x. written (bytesOfInts x) registers) left
-            ∙ inside-registers);
-      }
+  -- No code that passes the check needs more registers than there is room for, so those beyond make no difference.
+  same-room : (g : ℕ) → g ≤ groupLimit → ltb (used registers) (registersOf g) ≡ ltb (lent registers) (registersOf g)
+  same-room g few = by (decLt (lent registers) (registersOf g))
+    where
+      by : Dec (lent registers < registersOf g) → ltb (used registers) (registersOf g) ≡ ltb (lent registers) (registersOf g)
+      by (yes l) = lt-ltb (used registers) (registersOf g) (omega arith) ∙ sym (lt-ltb (lent registers) (registersOf g) l)
+      by (no l) = le-ltb (used registers) (registersOf g) (omega arith) ∙ sym (le-ltb (lent registers) (registersOf g) (omega arith))
+
+  module _ (fits : lentWords (length code) ≤ codeSize) where
+    -- The number is that of the call inside,
+    inside-number : refusal held called ≡ number
+    unfolding refusal
+    inside-number =
+        rw (le-ltb codeSize (lentWords (length code)) fits)
+        (same-behind (ground No.codeFails (not (codePasses held))) (lentGrounds (rowsSaid held) (groupsSaid held) called)
+        (lentGrounds (rowsSaid held) (groupsSaid held) (lentTo text start registers))
+        (λ p. rw (same-room (groupsSaid held) (ready held (not-false _ p) .groups))))
+
+    -- and so are the reply and the registers.
+    inside-reply : reply held called row ≡ replyLent row code text start registers
+    unfolding reply
+    inside-reply = ap (λ n. replyTo n (best M) (count M)) inside-number
+
+    inside-registers : written (bytesOfInts (registersAfter held called row (inside registers))) registers
+        ≡ registersLent row code text start registers
+    unfolding registersAfter
+    inside-registers =
+        ap (λ n. written (bytesOfInts (registersFrom n (groupsSaid held) (best M) (inside registers))) registers) inside-number
+        ∙ first-registers registers b (groupsSaid held) (best M) (spans-length (textOf text) (decode held) start row) number
+        (λ e. allowed held called (inside-number ∙ e) .enough)
+
+    -- The call answers what the run inside answers.
+    pub runs-bytes : {words work work′ registers′ : List ℕ} {ints ints′ : List ℤ} {n m : ℕ} {a : Answer} {r : Ran}
+        → words ≡ wordsOf code n → n ≡ lentWords (length code) → ints ≡ intsOf registers m
+        → m ≡ used registers → length work ≡ workspaceSize → Answered words text start row ints work a ints′ work′
+        → registers′ ≡ written (bytesOfInts ints′) registers → r ≡ ranNumbers (replyOf a)
+        → RunsBytes row code text start registers r registers′
+    runs-bytes {words} {work} {ints = ints} {m = m} w e i f k a s r =
+        let words-are : words ≡ held = w ∙ ap (wordsOf code) e in
+        let lent-is : lentBy text start ints work ≡ called
+        = ap₂ (lend text start) (ap length i ∙ ints-length registers m ∙ f) k in
+        record {
+          replies = r ∙ ap ranNumbers (a .replies ∙ ap₂ (λ x y. reply x y row) words-are lent-is ∙ inside-reply);
+          spans = s ∙ ap (λ x. written (bytesOfInts x) registers) (a .spans
+              ∙ ap₂ (λ x y. registersAfter x y row ints) words-are lent-is
+              ∙ ap (registersAfter held called row) (i ∙ ap (intsOf registers) f)) ∙ inside-registers;
+        }

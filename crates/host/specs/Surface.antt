@@ -1,15 +1,18 @@
 -- What the host surface passes: numbers for each answer, and bytes for words. Definitions only.
 use mathlib.Core.Path.{_≡_}
-use mathlib.Core.Bool.{Bool, cond}
-use mathlib.Core.List.{List}
+use mathlib.Core.Bool.{Bool, not, _||_}
+use mathlib.Core.List.{List, _∷_}
 use Prim.Native.Nat.{ℕ, _/_, min}
 use lib.Dec.{ltb}
 use lib.IntN.{ℤ}
 use lib.ListN.{length}
-use Rattle.machine.specs.Replies.{Reply, Reply.found, Reply.missing, Reply.refused, reply, registersAfter}
-use Rattle.reading_items.specs.Reading.{Reading, reading}
+use Rattle.meaning.specs.Refusals as No
+use Rattle.meaning.specs.Grounds.{Ground, ground, firstOf}
+use Rattle.machine.specs.Steps.{Machine, best, count}
+use Rattle.machine.specs.Words.{rowsSaid, groupsSaid, codePasses}
+use Rattle.machine.specs.Replies.{Reply, valuesOf, Lent, lend, lentGrounds, runOf, replyTo, registersFrom}
+use Rattle.reading_items.specs.Reading.{reading}
 use Rattle.compiler.specs.Compiling.{answerBy, codeLeft}
-use Rattle.compiler_tidied.specs.Compiling.{answerBy as tidiedAnswerBy, codeLeft as tidiedCodeLeft}
 use Rattle.compiler.specs.declared.Compilation.{Compilation}
 use Rattle.compiler.specs.declared.Compilation.the-variants.{Rows, Refused}
 use Rattle.wire.specs.Wire.{wordsOf, intsOf, bytesOfWords, bytesOfInts, written}
@@ -22,12 +25,14 @@ abbrev pub compiledNumbers : Compilation → Compiled
 compiledNumbers (Rows n g) = record { number = 0; rows = n; groups = g; place = 0 }
 compiledNumbers (Refused number place) = record { number = number; rows = 0; groups = 0; place = place }
 
--- The numbers passed for what a run answers: 0, 1 for found or 0 for none, and the count of rows executed; or a refusal's
--- number, at place 0 and with count 0.
+-- The numbers passed for what a run answers: the outline's values.
 abbrev pub ranNumbers : Reply → Ran
-ranNumbers (found executed) = record { number = 0; found = 1; place = 0; count = executed }
-ranNumbers (missing executed) = record { number = 0; found = 0; place = 0; count = executed }
-ranNumbers (refused number) = record { number = number; found = 0; place = 0; count = 0 }
+ranNumbers r = record {
+  number = valuesOf r .number;
+  found = valuesOf r .found;
+  place = valuesOf r .place;
+  count = valuesOf r .count;
+}
 
 -- The words that bytes lend: a part word counts as not lent.
 abbrev pub lentWords : ℕ → ℕ
@@ -37,23 +42,11 @@ lentWords bytes = bytes / 4
 abbrev pub codeLent : ℕ → ℕ
 codeLent bytes = min (lentWords bytes) codeSize
 
--- What is answered about a reading with so many words of code, and the code that is left: for the tidied pattern or the plain.
-abbrev pub answerAt : Bool → Reading → ℕ → Compilation
-answerAt tidying read = cond tidying (tidiedAnswerBy read) (answerBy read)
-
-abbrev pub codeAfter : Bool → Reading → List ℕ → List ℕ
-codeAfter tidying read = cond tidying (tidiedCodeLeft read) (codeLeft read)
-
--- The promise of compiling on words, with so many words of a table.
-pub record CompilesOne (tidying : Bool) (s : List ℕ) (table : ℕ) (code code′ : List ℕ) (r : Compilation) : Type 0 where
-  pub answers : r ≡ answerAt tidying (reading s table) (length code)
-  pub code-is : code′ ≡ codeAfter tidying (reading s table) code
-
 -- The promise of compiling on bytes: the numbers of the answer, and the code's bytes in front of those that stood behind them.
 pub record CompilesBytes (tidying : Bool) (s code : List ℕ) (r : Compiled) (code′ : List ℕ) : Type 0 where
-  pub answers : r ≡ compiledNumbers (answerAt tidying (reading s tableSize) (codeLent (length code)))
+  pub answers : r ≡ compiledNumbers (answerBy tidying (reading s tableSize) (codeLent (length code)))
   pub code-is : code′
-      ≡ written (bytesOfWords (codeAfter tidying (reading s tableSize) (wordsOf code (codeLent (length code))))) code
+      ≡ written (bytesOfWords (codeLeft tidying (reading s tableSize) (wordsOf code (codeLent (length code))))) code
 
 -- All words and registers that bytes lend.
 abbrev pub allWords : List ℕ → List ℕ
@@ -62,17 +55,28 @@ allWords bytes = wordsOf bytes (lentWords (length bytes))
 abbrev pub allInts : List ℕ → List ℤ
 allInts bytes = intsOf bytes (lentWords (length bytes))
 
--- The reply to a run on bytes that begins at a row: 20 if more words of code are lent than there is room for.
+-- What bytes lend to a run, with the workspace inside.
+abbrev pub lentTo : List ℕ → ℕ → List ℕ → Lent
+lentTo text start registers = lend text start (lentWords (length registers)) workspaceSize
+
+-- The grounds for turning a run on bytes away: code over the words that there is room for, or that fails its check; and those
+-- in what is lent.
+abbrev pub byteGrounds : List ℕ → Lent → List Ground
+byteGrounds code lent =
+    ground No.codeFails (ltb codeSize (lentWords (length code)) || not (codePasses (allWords code)))
+    ∷ lentGrounds (rowsSaid (allWords code)) (groupsSaid (allWords code)) lent
+
+-- The reply to a run on bytes that begins at a row.
 abbrev pub replyLent : ℕ → List ℕ → List ℕ → ℕ → List ℕ → Reply
 replyLent row code text start registers =
-    cond (ltb codeSize (lentWords (length code))) (refused 20)
-    (reply (allWords code) text start (lentWords (length registers)) workspaceSize row)
+    let M : Machine = runOf (allWords code) text start row in
+    replyTo (firstOf (byteGrounds code (lentTo text start registers))) (best M) (count M)
 
 -- The registers' bytes after it: those of the registers, and behind them the bytes that stood there.
 abbrev pub registersLent : ℕ → List ℕ → List ℕ → ℕ → List ℕ → List ℕ
 registersLent row code text start registers =
-    cond (ltb codeSize (lentWords (length code))) registers
-    (written (bytesOfInts (registersAfter (allWords code) text start (allInts registers) workspaceSize row)) registers)
+    written (bytesOfInts (registersFrom (firstOf (byteGrounds code (lentTo text start registers)))
+    (groupsSaid (allWords code)) (best (runOf (allWords code) text start row)) (allInts registers))) registers
 
 -- The promise of a run on bytes that begins at a row.
 pub record RunsBytes (row : ℕ) (code text : List ℕ) (start : ℕ) (registers : List ℕ) (r : Ran) (registers′ : List ℕ)

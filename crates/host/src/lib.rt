@@ -3,10 +3,10 @@
 ghost use mathlib.Core.Path.{_≡_};
 ghost use mathlib.Core.Bool.{true, false, cond};
 ghost use Prim.Native.Nat.{min};
-ghost use lib.ListN.{length};
 ghost use Rattle.machine.specs.Steps.{searchRow, matchRow};
+ghost use Rattle.compiler.specs.Compiling.{plain, tidied, Compiles};
 ghost use Rattle.engine.specs.Answers.{replyOf, Answered};
-ghost use Rattle.host.specs.Surface.{compiledNumbers, ranNumbers, lentWords, CompilesOne, CompilesBytes, RunsBytes};
+ghost use Rattle.host.specs.Surface.{compiledNumbers, ranNumbers, lentWords, CompilesBytes, RunsBytes};
 use compiler::Compilation;
 use engine::Answer;
 use meaning::limits::CODE_SIZE;
@@ -95,7 +95,7 @@ fn lent_words(bytes: usize, most: usize) -> usize
 
 // Compiling the tidied pattern, or the plain one.
 fn code_for(tidying: bool, pattern: &[u8], table: &mut [u32], code: &mut [u32]) -> Compilation
-    ensures { λ r. ⌜ CompilesOne tidying (now (pattern .entry)) (length (now (table .entry))) (now (code .entry))
+    ensures { λ r. ⌜ Compiles tidying (now (pattern .entry)) (now (table .entry)) (now (table .exit)) (now (code .entry))
         (now (code .exit)) r ⌝ }
 {
     if tidying {
@@ -122,7 +122,7 @@ fn compile_lent(tidying: bool, pattern: &[u8], code: &mut [u8]) -> Compiled
 // that stood behind them; or the number and place of a refusal, and all bytes are as they were.
 #[no_mangle]
 pub extern "C" fn millkettle_compile(pattern: &[u8], code: &mut [u8]) -> Compiled
-    ensures { λ r. ⌜ CompilesBytes false (now (pattern .entry)) (now (code .entry)) r (now (code .exit)) ⌝ }
+    ensures { λ r. ⌜ CompilesBytes plain (now (pattern .entry)) (now (code .entry)) r (now (code .exit)) ⌝ }
 {
     compile_lent(false, pattern, code)
 }
@@ -130,7 +130,7 @@ pub extern "C" fn millkettle_compile(pattern: &[u8], code: &mut [u8]) -> Compile
 // Compiles the tidied pattern. Answers as `millkettle_compile` does, but 16 is by the tidied pattern's rows.
 #[no_mangle]
 pub extern "C" fn millkettle_compile_tidied(pattern: &[u8], code: &mut [u8]) -> Compiled
-    ensures { λ r. ⌜ CompilesBytes true (now (pattern .entry)) (now (code .entry)) r (now (code .exit)) ⌝ }
+    ensures { λ r. ⌜ CompilesBytes tidied (now (pattern .entry)) (now (code .entry)) r (now (code .exit)) ⌝ }
 {
     compile_lent(true, pattern, code)
 }

@@ -7,12 +7,13 @@ use lib.IntN.{ℤ, pos}
 use lib.ListN.{length, take, replicate}
 use Rattle.meaning.specs.Text.{registersOf}
 use Rattle.meaning.specs.Limits.{groupLimit, tableSize, codeSize, workspaceSize}
+use Rattle.meaning.specs.Refusals as No
 use Rattle.meaning.specs.Results.{concatMap}
 use Rattle.machine.specs.Steps.{searchRow}
 use Rattle.machine.specs.Words.{groupsSaid}
-use Rattle.machine.specs.Replies.{Reply, Reply.found, Reply.missing, Reply.refused, reply, registersAfter}
+use Rattle.machine.specs.Replies.{Reply, Reply.found, Reply.missing, Reply.refused, Lent, lend, reply, registersAfter}
 use Rattle.reading_items.specs.Reading.{reading}
-use Rattle.compiler.specs.Compiling.{answerBy, codeLeft}
+use Rattle.compiler.specs.Compiling.{plain, answerBy, codeLeft}
 use Rattle.compiler.specs.declared.Compilation.{Compilation}
 use Rattle.compiler.specs.declared.Compilation.the-variants.{Rows, Refused}
 use Rattle.intake_report.specs.Texts.{spansLine, headerLine, refusedAt, refusedRun, noneLine}
@@ -27,10 +28,10 @@ registerCount = registersOf groupLimit
 
 -- What becomes of a pattern line, and the code that it leaves.
 abbrev pub compiled : List ℕ → Compilation
-compiled pattern = answerBy (reading pattern tableSize) codeSize
+compiled pattern = answerBy plain (reading pattern tableSize) codeSize
 
 abbrev pub codeFrom : List ℕ → List ℕ → List ℕ
-codeFrom pattern code = codeLeft (reading pattern tableSize) code
+codeFrom pattern code = codeLeft plain (reading pattern tableSize) code
 
 -- The line for a pattern: its rows and groups, or the refusal's number and place.
 abbrev pub patternLine : Compilation → List ℕ
@@ -43,17 +44,20 @@ replyLine (found executed) numbers = spansLine numbers
 replyLine (missing executed) numbers = noneLine
 replyLine (refused number) numbers = refusedRun number
 
--- The starts and ends of all groups after a search of a line from 0.
+-- What is lent to a search of a line from 0, and the starts and ends of all groups after it.
+abbrev pub lentFor : List ℕ → Lent
+lentFor line = lend line 0 registerCount workspaceSize
+
 abbrev pub numbersFor : List ℕ → List ℕ → List ℤ
 numbersFor code line =
-    take (registersOf (groupsSaid code)) (registersAfter code line 0 (replicate registerCount (pos 0)) workspaceSize searchRow)
+    take (registersOf (groupsSaid code)) (registersAfter code (lentFor line) searchRow (replicate registerCount (pos 0)))
 
 -- The line for a text line: 21 if it is too long, else the reply to a search from 0.
 unfoldable pub lineFor : List ℕ → List ℕ → List ℕ
 lineFor code line =
     cond (leb (length line) lineLimit)
-    (replyLine (reply code line 0 registerCount workspaceSize searchRow) (numbersFor code line))
-    (refusedRun 21)
+    (replyLine (reply code (lentFor line) searchRow) (numbersFor code line))
+    (refusedRun No.longText)
 
 -- The lines for all text lines; a refused pattern ends the work.
 abbrev pub linesFor : Compilation → List ℕ → List (List ℕ) → List ℕ

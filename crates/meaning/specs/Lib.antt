@@ -11,4 +11,5 @@ pub mod Agrees
 pub mod Bytes
 pub mod Limits
 pub mod Refusals
+pub mod Grounds
 pub mod Quoted

@@ -1,11 +1,6 @@
--- The outline's numbers for what is turned away, each under one name, and which of several is told. A file that cites a number
--- says `No.` before its name.
-use mathlib.Core.Path.{_≡_, refl, sym, ap, _∙_}
-use mathlib.Core.Bool.{Bool, true, false, cond, false≢true}
-use mathlib.Core.Logic.{_⊎_, inl, inr}
-use mathlib.Core.List.{List, [], _∷_, _++_}
-use Prim.Native.Nat.{ℕ, zero, suc}
-use native.Mathlib.Omega.{arith}
+-- The outline's numbers for what is turned away, each under one name. A file that cites a number says `No.` before its name.
+-- Definitions only.
+use Prim.Native.Nat.{ℕ}
 
 -- The checks that come before a pattern is read: over the longest; a table too small; a byte above 7F.
 abbrev pub longPattern : ℕ
@@ -80,77 +75,3 @@ fewRegisters = 23
 
 abbrev pub smallWorkspace : ℕ
 smallWorkspace = 24
-
--- A ground for turning a call away: its number, and whether it holds.
-pub record Ground : Type 0 where
-  pub number : ℕ
-  pub holds : Bool
-
-abbrev pub ground : ℕ → Bool → Ground
-ground number holds = record { number = number; holds = holds }
-
--- Of grounds in their order the number of the first that holds; 0 if none does.
-abbrev pub firstOf : List Ground → ℕ
-firstOf [] = 0
-firstOf (one ∷ more) = cond (one .holds) (one .number) (firstOf more)
-
--- None of the grounds holds.
-abbrev pub NoneOf : List Ground → Type 0
-NoneOf [] = Unit {0}
-NoneOf (one ∷ more) = (one .holds ≡ false) × NoneOf more
-
--- Each of the grounds has a number, which is not 0.
-abbrev pub Numbered : List Ground → Type 0
-Numbered [] = Unit {0}
-Numbered (one ∷ more) = (one .number ≡ 0 → ⊥) × Numbered more
-
--- The first that holds is told, whatever holds behind it;
-pub first-told : (before : List Ground) (one : Ground) (more : List Ground) → NoneOf before → one .holds ≡ true
-    → one .number ≡ firstOf (before ++ (one ∷ more))
-first-told [] one more n h = rw h
-first-told (other ∷ before) one more n h = rw (n .0) (first-told before one more (n .1) h)
-
--- nothing is told where none holds,
-pub none-told : (grounds : List Ground) → NoneOf grounds → 0 ≡ firstOf grounds
-none-told [] n = refl
-none-told (one ∷ more) n = rw (n .0) (none-told more (n .1))
-
--- and none holds where nothing is told;
-pub none-holds : (grounds : List Ground) → Numbered grounds → firstOf grounds ≡ 0 → NoneOf grounds
-none-holds [] d e = tt
-none-holds (one ∷ more) d e = go (one .holds) refl e (none-holds more (d .1))
-  where
-    go : (b : Bool) → one .holds ≡ b → cond b (one .number) (firstOf more) ≡ 0 → (firstOf more ≡ 0 → NoneOf more)
-        → NoneOf (one ∷ more)
-    go true h f rest = absurd (d .0 f)
-    go false h f rest = (h, rest f)
-
--- A ground that is told: those before it do not hold, and it does.
-pub record Told (grounds : List Ground) (number : ℕ) : Type 0 where
-  pub before : List Ground
-  pub one : Ground
-  pub more : List Ground
-  pub split : grounds ≡ before ++ (one ∷ more)
-  pub none : NoneOf before
-  pub holds : one .holds ≡ true
-  pub is : one .number ≡ number
-
--- and a number that is told is that of the first that holds.
-pub told-first : (grounds : List Ground) (k : ℕ) → firstOf grounds ≡ suc k → Told grounds (suc k)
-told-first [] k e = absurd (omega arith)
-told-first (one ∷ more) k e = go (one .holds) refl e (told-first more k)
-  where
-    go : (b : Bool) → one .holds ≡ b → cond b (one .number) (firstOf more) ≡ suc k
-        → (firstOf more ≡ suc k → Told more (suc k)) → Told (one ∷ more) (suc k)
-    go true h f rest = record { before = []; one = one; more = more; split = refl; none = tt; holds = h; is = f }
-    go false h f rest =
-        let t = rest f in
-        record {
-          before = one ∷ t .before;
-          one = t .one;
-          more = t .more;
-          split = ap (λ gs. one ∷ gs) (t .split);
-          none = (h, t .none);
-          holds = t .holds;
-          is = t .is;
-        }

@@ -1,26 +1,24 @@
 -- What `find` answers and leaves behind: demand 2 in one definition, by the reading, the number of rows, the exact conditions
 -- of a run and the standard's search. Definitions only.
 use mathlib.Core.Path.{_≡_}
-use mathlib.Core.Bool.{cond}
-use mathlib.Core.Option.{Option, none, some}
+use mathlib.Core.Option.{Option}
 use mathlib.Core.List.{List, _++_}
-use Prim.Native.Nat.{ℕ, zero, suc, _+_, _*_, _-_, _≤_}
-use lib.Dec.{leb}
+use Prim.Native.Nat.{ℕ, _+_, _*_, _-_, _≤_}
 use lib.IntN.{ℤ}
-use lib.ListN.{length, getD, drop}
-use Rattle.meaning.specs.Limits.{textLimit, workspaceWords}
-use Rattle.meaning.specs.Text.{Regs, registersOf}
+use lib.ListN.{length, getD}
+use Rattle.meaning.specs.Limits.{workspaceWords}
+use Rattle.meaning.specs.Grounds.{Ground, firstOf}
+use Rattle.meaning.specs.Text.{Regs}
 use Rattle.meaning.specs.Bytes.{textOf}
 use Rattle.meaning.specs.Node.{Node}
 use Rattle.meaning.specs.Standard.{searchFrom}
 use Rattle.machine.specs.Layout.{programOf}
 use Rattle.machine.specs.Steps.{run, count, searchRow}
-use Rattle.machine.specs.Replies.{Reply, Reply.found, Reply.missing, Reply.refused, spans}
+use Rattle.machine.specs.Replies.{Reply, Reply.found, Reply.missing, Reply.refused, valuesOf, Lent, lentBy, lentGrounds}
+use Rattle.machine.specs.Replies.{replyTo, registersFrom}
 use Rattle.reading_items.specs.Reading.{Reading, Reading.pattern, Reading.refused as unread, reading}
-use Rattle.code_rows.specs.Emission.{rowsNeeded, emission}
-use Rattle.code_rows.specs.declared.Emission.{Emission}
-use Rattle.code_rows.specs.declared.Emission.the-variants.{Rows, TooMany, TooShort}
-use Rattle.compiler.specs.Compiling.{tableAt, codeAt}
+use Rattle.code_rows.specs.Emission.{rowsNeeded}
+use Rattle.compiler.specs.Compiling.{plain, programGrounds, tableAt, codeAt}
 use Rattle.engine.specs.Answers.{replyOf}
 use Rattle.engine.specs.declared.Answer.{Answer}
 use Rattle.millkettle.specs.declared.Finding.{Finding}
@@ -30,27 +28,10 @@ use Rattle.millkettle.specs.declared.Finding.the-variants.{Found, Missin
 abbrev pub findingFrom : Reply → Finding
 findingFrom (found executed) = Found executed
 findingFrom (missing executed) = Missing executed
-findingFrom (refused number) = Refused number 0
+findingFrom (refused number) = Refused number (valuesOf (refused number) .place)
 
 abbrev pub findingOf : Answer → Finding
 findingOf r = findingFrom (replyOf r)
-
--- What is lent to a run, but for its words: the text, the start, how many registers and how many workspace words.
-pub record Lent : Type 0 where
-  pub text : List ℕ
-  pub start : ℕ
-  pub registers : ℕ
-  pub workspace : ℕ
-
--- The number by which a run of n rows and g groups is turned away, the first in order that holds, 0 if it is not: 21 text over
--- the limit; 22 start beyond the text's length; 23 fewer registers, and 24 fewer workspace words, than it needs.
-abbrev pub turnedAway : ℕ → ℕ → Lent → ℕ
-turnedAway n g lent =
-    cond (leb (length (lent .text)) textLimit)
-    (cond (leb (lent .start) (length (lent .text)))
-    (cond (leb (registersOf g) (lent .registers)) (cond (leb (workspaceWords n g) (lent .workspace)) 0 24) 23)
-    22)
-    21
 
 -- What the standard's search from the start finds, and how many rows the steps execute.
 abbrev pub sought : Node → ℕ → Lent → Option Regs
@@ -59,23 +40,16 @@ sought r g lent = searchFrom (textOf (lent .text)) g r (lent .start)
 abbrev pub stepsTaken : Node → ℕ → Lent → ℕ
 stepsTaken r g lent = count (run (textOf (lent .text)) (programOf g r) (lent .start) searchRow)
 
--- Found, or none exactly if the search finds nothing.
-abbrev pub told : Option Regs → ℕ → Finding
-told none executed = Missing executed
-told (some ρ) executed = Found executed
+-- The grounds for which a pattern that was read is refused, in order: those for which it has no program in so many words of
+-- code, and those in what is lent to its run.
+abbrev pub findGrounds : Node → ℕ → ℕ → Lent → List Ground
+findGrounds r g words lent = programGrounds plain r words ++ lentGrounds (rowsNeeded r) g lent
 
--- The outline's number and values for each case: a refused run is at place 0.
-abbrev pub ran : ℕ → Node → ℕ → Lent → Finding
-ran zero r g lent = told (sought r g lent) (stepsTaken r g lent)
-ran (suc number) r g lent = Refused (suc number) 0
-
-abbrev pub emitted : Emission → Node → ℕ → Lent → Finding
-emitted (Rows n) r g lent = ran (turnedAway n g lent) r g lent
-emitted TooMany r g lent = Refused 15 0
-emitted TooShort r g lent = Refused 16 0
-
+-- The outline's number and values for each case: refused by the first ground that holds, or found, or none exactly if the
+-- search finds nothing.
 abbrev pub findingBy : Reading → ℕ → Lent → Finding
-findingBy (pattern r g) words lent = emitted (emission r words) r g lent
+findingBy (pattern r g) words lent =
+    findingFrom (replyTo (firstOf (findGrounds r g words lent)) (sought r g lent) (stepsTaken r g lent))
 findingBy (unread number place) words lent = Refused number place
 
 -- The answer to a pattern with so many table words, so many code words and what is lent to its run.
@@ -83,17 +57,8 @@ abbrev pub finding : List ℕ → ℕ → ℕ → Lent → Finding
 finding s table code lent = findingBy (reading s table) code lent
 
 -- The registers: the spans of what was found, all -1 on none, and later ones as they were; all as they were on a refusal.
-abbrev pub spansRan : ℕ → Node → ℕ → Lent → List ℤ → List ℤ
-spansRan zero r g lent before = spans g (sought r g lent) ++ drop (registersOf g) before
-spansRan (suc number) r g lent before = before
-
-abbrev pub spansEmitted : Emission → Node → ℕ → Lent → List ℤ → List ℤ
-spansEmitted (Rows n) r g lent before = spansRan (turnedAway n g lent) r g lent before
-spansEmitted TooMany r g lent before = before
-spansEmitted TooShort r g lent before = before
-
 abbrev pub spansBy : Reading → ℕ → Lent → List ℤ → List ℤ
-spansBy (pattern r g) words lent before = spansEmitted (emission r words) r g lent before
+spansBy (pattern r g) words lent before = registersFrom (firstOf (findGrounds r g words lent)) g (sought r g lent) before
 spansBy (unread number place) words lent before = before
 
 abbrev pub spansLeft : List ℕ → ℕ → ℕ → Lent → List ℤ → List ℤ
@@ -114,17 +79,13 @@ counted (Found executed) = executed
 counted (Missing executed) = executed
 counted (Refused number place) = 0
 
-abbrev pub lentBy : List ℕ → ℕ → List ℤ → List ℕ → Lent
-lentBy text start registers workspace =
-    record { text = text; start = start; registers = length registers; workspace = length workspace }
-
 -- The promise of `find`. Table and code are what `compile` leaves; workspace words behind those that a run needs stay, all of
 -- them on a refusal.
 pub record Finds (s text : List ℕ) (start : ℕ) (table table′ code code′ : List ℕ) (registers registers′ : List ℤ)
     (workspace workspace′ : List ℕ) (answer : Finding) : Type 0 where
   pub answers : answer ≡ finding s (length table) (length code) (lentBy text start registers workspace)
-  pub table-is : table′ ≡ tableAt s table code
-  pub code-is : code′ ≡ codeAt s table code
+  pub table-is : table′ ≡ tableAt plain s table code
+  pub code-is : code′ ≡ codeAt plain s table code
   pub spans-are : registers′ ≡ spansLeft s (length table) (length code) (lentBy text start registers workspace) registers
   pub long : length workspace′ ≡ length workspace
   pub later : (i : ℕ) → wordsNeeded (reading s (length table)) ≤ i → getD workspace′ i 0 ≡ getD workspace i 0

@@ -1,9 +1,3 @@
 pub mod Finding
 pub mod Laws
 pub mod Found
-pub mod Runs
-pub mod Impossible
-pub mod Pinned
-pub mod Tidied
-pub mod Untidied
-pub mod Demands

@@ -2,8 +2,7 @@
 // its arguments: what it cannot do it refuses by the outline's number, and a refusal leaves behind what the outline says.
 ghost use mathlib.Core.Path.{_≡_};
 ghost use Rattle.machine.specs.Steps.{searchRow, matchRow};
-ghost use Rattle.compiler.specs.Compiling.{Compiles};
-ghost use Rattle.compiler_tidied.specs.Compiling.{CompilesTidied};
+ghost use Rattle.compiler.specs.Compiling.{plain, tidied, Compiles};
 ghost use Rattle.engine.specs.Answers.{Answered};
 ghost use Rattle.millkettle.specs.Finding.{findingOf, Finds};
 use compiler::Compilation;
@@ -19,7 +18,7 @@ pub enum Finding {
 // A pattern's bytes as code. Answers how many rows and groups it has, or refuses it by the outline's number at a place: 1 to 3
 // change nothing, 4 to 16 make the whole table zero, and all leave the code alone. Words of the code behind its rows stay.
 pub fn compile(pattern: &[u8], table: &mut [u32], code: &mut [u32]) -> Compilation
-    ensures { λ r. ⌜ Compiles (now (pattern .entry)) (now (table .entry)) (now (table .exit)) (now (code .entry))
+    ensures { λ r. ⌜ Compiles plain (now (pattern .entry)) (now (table .entry)) (now (table .exit)) (now (code .entry))
         (now (code .exit)) r ⌝ }
 {
     compiler::compile(pattern, table, code)
@@ -28,10 +27,10 @@ pub fn compile(pattern: &[u8], table: &mut [u32], code: &mut [u32]) -> Compilati
 // As `compile`, for the tidied pattern: refusals are those of the plain one, but 16 is by the tidied one's rows. The table
 // then holds the tidied pattern.
 pub fn compile_tidied(pattern: &[u8], table: &mut [u32], code: &mut [u32]) -> Compilation
-    ensures { λ r. ⌜ CompilesTidied (now (pattern .entry)) (now (table .entry)) (now (table .exit)) (now (code .entry))
+    ensures { λ r. ⌜ Compiles tidied (now (pattern .entry)) (now (table .entry)) (now (table .exit)) (now (code .entry))
         (now (code .exit)) r ⌝ }
 {
-    compiler_tidied::compile_tidied(pattern, table, code)
+    compiler::compile_tidied(pattern, table, code)
 }
 
 // Whether code matches at the start. Answers found or none with the count of rows executed, or refuses by 20 to 24 and changes

@@ -15,8 +15,7 @@ same-length-2 c = search needs
 returns : tie.Need-returns
 returns c =
     let called = c .before .before .before .before in
-    let kept = called .compile-tidied .ensures in
-    rw (called .before .before .before .if1 .taken) (record { answers = kept .answers; code-is = kept .code-is })
+    rw (called .before .before .before .if1 .taken) (called .compile-tidied .ensures)
 
 compile-requires : tie.Need-compile-requires
 compile-requires c κs = search needs
@@ -30,8 +29,7 @@ same-length-4 c = search needs
 returns-2 : tie.Need-returns-2
 returns-2 c =
     let called = c .before .before .before .before in
-    let kept = called .compile .ensures in
-    rw (called .before .before .before .if1 .left) (record { answers = kept .answers; code-is = kept .code-is })
+    rw (called .before .before .before .if1 .left) (called .compile .ensures)
 
 pub code-for-spec : {M : Type 1} → statement M
 code-for-spec =

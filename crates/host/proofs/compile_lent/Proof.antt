@@ -53,7 +53,7 @@ returns c =
     let counted = loaded .before .before .before .before in
     let args = counted .before .before .before .args in
     let n = counted .lent-words in
-    compiles-bytes _ (args .pattern .now) (args .code .now) (loaded .load-words .ensures)
+    compiles-bytes _ (args .pattern .now) (args .code .now) (search needs) (loaded .load-words .ensures)
     (first-of {A = ℕ} (n .result) codeSize 0 (omega (arith, n .ensures)) ∙ n .ensures) (made .code-for .ensures)
     (stored .store-words .ensures) (c .compiled-numbers .ensures)
 

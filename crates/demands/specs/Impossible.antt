@@ -16,11 +16,12 @@ use Rattle.machine.specs.Layout.{sizeOf, rowsOf, anyByte}
 use Rattle.machine.specs.Words.{codeOf}
 use Rattle.reading_atoms.specs.Braces.{quantifierAt}
 use Rattle.reading_items.specs.Reading.{openingAt, itemBy, itemAt, sequenceGo, alternativesGo, reading}
-use Rattle.compiler.specs.Compiling.{codeAt, Compiles}
+use Rattle.compiler.specs.Compiling.{plain, codeAt, Compiles}
 use Rattle.compiler.specs.declared.Compilation.{Compilation}
-use Rattle.millkettle.specs.Finding.{lentBy, finding, spansLeft, counted, Finds}
+use Rattle.machine.specs.Replies.{lentBy}
+use Rattle.millkettle.specs.Finding.{finding, spansLeft, counted, Finds}
 use Rattle.millkettle.specs.declared.Finding.{Finding}
 use Rattle.millkettle.specs.declared.Finding.the-variants.{Found, Missing, Refused}
 
 -- Buffers of zeros that are enough for a pattern of one byte: 64 table words, 120 code words, 2 registers and 288
 -- workspace words.
@@ -109,12 +110,12 @@ module _ (a : Answering) where
       omega arith
 
 -- A compiler that writes nothing: the first word of the empty pattern's code is its number of rows, 8.
-first-word : getD (codeAt [] table code) 0 0 ≡ 8
+first-word : getD (codeAt plain [] table code) 0 0 ≡ 8
 unfolding reading alternativesGo sequenceGo parts sizeOf codeOf rowsOf
 first-word = refl
 
-pub writes-nothing : {table′ code′ : List ℕ} {answer : Compilation} → Compiles [] table table′ code code′ answer → code′ ≡
-    code → ⊥
+pub writes-nothing : {table′ code′ : List ℕ} {answer : Compilation} → Compiles plain [] table table′ code code′ answer
+    → code′ ≡ code → ⊥
 writes-nothing h e =
     let no : _≡_ {A = ℕ} 8 0 = sym first-word ∙ ap (λ c. getD c 0 0) (sym (h .code-is) ∙ e) in
     omega arith

@@ -1,5 +1,7 @@
--- What the promises of a run say of any code, and of code that says a pattern: the bound, the count, and the answer of the standard.
-use mathlib.Core.Path.{_≡_, sym, ap, subst, _∙_}
+-- What the promises of a run say of any code, and of code that says a pattern: the bound, the count, and the answer of the
+-- standard.
+use mathlib.Core.Path.{_≡_, sym, ap, ap₂, _∙_}
+use mathlib.Core.Bool.{Bool}
 use mathlib.Core.Option.{Option, none, some}
 use mathlib.Core.List.{List, _++_}
 use Prim.Native.Nat.{ℕ, suc, _+_, _*_, _-_, _≤_}
@@ -9,35 +11,37 @@ use lib.ListN.{length, drop}
 use Rattle.meaning.specs.Text.{Regs, registersOf}
 use Rattle.meaning.specs.Bytes.{Bytes}
 use Rattle.meaning.specs.Node.{Node}
-use Rattle.machine.specs.Steps.{best, count}
+use Rattle.machine.specs.Steps.{Machine, best, count}
 use Rattle.machine.specs.Words.{rowsSaid, groupsSaid}
-use Rattle.machine.specs.Replies.{Reply.refused, refusal, runOf, answerOf, replyTo, reply, spans, registersFrom, registersAfter}
+use Rattle.machine.specs.Replies.{Reply.refused, Lent, lentBy, turnedAway, refusal, runOf, answerOf, replyTo, reply, spans}
+use Rattle.machine.specs.Replies.{registersFrom, registersAfter}
 use Rattle.reading_items.specs.Reading.{Reading.pattern, reading}
-use Rattle.compiler.specs.Compiling.{Compiles}
+use Rattle.compiler.specs.Compiling.{shaped, Compiles}
+use Rattle.compiler.specs.Compiled.{Coded, Compiled, compiled}
 use Rattle.compiler.specs.declared.Compilation.the-variants.{Rows}
 use Rattle.engine.specs.Answers.{replyOf, executed, Answered}
 use Rattle.engine.specs.declared.Answer.{Answer}
 use Rattle.engine.specs.declared.Answer.the-variants.{Found, Missing, Refused}
-use Rattle.millkettle.specs.Finding.{Lent, lentBy, turnedAway}
-use Rattle.millkettle.specs.Laws.{Coded, Made, made, Way, rowOf, standardBy, finds, conditions, within}
+use Rattle.millkettle.specs.Laws.{Way, rowOf, standardBy, finds, conditions, within}
 
 -- Demand 1: for any code, text, start and buffers, at most two rows are executed for each row and position,
 module _ {code text : List ℕ} {start row : ℕ} {registers registers′ : List ℤ} {workspace workspace′ : List ℕ} {r : Answer}
     (a : Answered code text start row registers workspace r registers′ workspace′) where
+  abbrev lent : Lent
+  lent = lentBy text start registers workspace
+
+  abbrev M : Machine
+  M = runOf code text start row
+
   pub bounded-rows : executed r ≤ 2 * rowsSaid code * (length text - start + 1)
   bounded-rows = a .bounded
 
   -- a run that is not turned away reports the steps' count,
-  pub counted-rows : refusal code text start (length registers) (length workspace) ≡ 0
-      → executed r ≡ count (runOf code text start row)
+  pub counted-rows : refusal code lent ≡ 0 → executed r ≡ count M
   unfolding reply
-  counted-rows e =
-      let so : replyOf r ≡ replyTo 0 (runOf code text start row)
-      = a .replies ∙ ap (λ k. replyTo k (runOf code text start row)) e in
-      go r (best (runOf code text start row)) so
+  counted-rows e = go r (best M) (a .replies ∙ ap (λ k. replyTo k (best M) (count M)) e)
     where
-      go : (r : Answer) (o : Option Regs) → replyOf r ≡ answerOf o (count (runOf code text start row))
-          → executed r ≡ count (runOf code text start row)
+      go : (r : Answer) (o : Option Regs) → replyOf r ≡ answerOf o (count M) → executed r ≡ count M
       go (Found n) (some ρ) e = cc
       go (Missing n) none e = cc
       go (Found n) none e = absurd (let z : _≡_ {A = ℕ} 0 1 = cc in omega arith)
@@ -46,17 +50,12 @@ module _ {code text : List ℕ} {start row : ℕ} {registers registers′ : List
       go (Refused n) (some ρ) e = absurd (let z : _≡_ {A = ℕ} 0 1 = cc in omega arith)
 
   -- and one that is turned away says the first number in order whose condition holds, and changes nothing.
-  pub turned-rows : (k : ℕ) → refusal code text start (length registers) (length workspace) ≡ suc k
+  pub turned-rows : (k : ℕ) → refusal code lent ≡ suc k
       → (r ≡ Refused (suc k)) × (registers′ ≡ registers) × (workspace′ ≡ workspace)
   unfolding reply registersAfter
   turned-rows k e =
-      let so : replyOf r ≡ refused (suc k) = a .replies ∙ ap (λ k. replyTo k (runOf code text start row)) e in
-      let is : r ≡ Refused (suc k) = go r so in (
-        is,
-        a .spans ∙ ap (λ k. registersFrom k (groupsSaid code) (runOf code text start row) registers) e,
-        a .untouched
-            (suc k) is,
-      )
+      let is : r ≡ Refused (suc k) = go r (a .replies ∙ ap (λ k. replyTo k (best M) (count M)) e) in
+      (is, a .spans ∙ ap (λ k. registersFrom k (groupsSaid code) (best M) registers) e, a .untouched (suc k) is)
     where
       go : (r : Answer) → replyOf r ≡ refused (suc k) → r ≡ Refused (suc k)
       go (Found n) e = absurd (let z : _≡_ {A = ℕ} 0 1 = cc in omega arith)
@@ -82,37 +81,34 @@ pub answers-standard : (way : Way) {code text : List ℕ} {start : ℕ} {registe
 unfolding reply registersAfter
 answers-standard way {code} {text} {start} {registers} {workspace = workspace} {n = n} {g = g} {r = r} bytes m a =
     let lent : Lent = lentBy text start registers workspace in
-    let same : refusal code text start (length registers) (length workspace) ≡ turnedAway n g lent
-    = conditions m text bytes start (length registers) (length workspace) in
-    let found : turnedAway n g lent ≡ 0 → best (runOf code text start (rowOf way)) ≡ standardBy way text g r start
+    let M : Machine = runOf code text start (rowOf way) in
+    let same : refusal code lent ≡ turnedAway n g lent = conditions m lent in
+    let found : turnedAway n g lent ≡ 0 → best M ≡ standardBy way text g r start
     = λ e. finds m text bytes start way (within n g lent e) in
     record {
-      answers = λ e. a .replies ∙ ap (λ k. replyTo k (runOf code text start (rowOf way))) (same ∙ e)
-          ∙ rw (found e, ← counted-rows a (same ∙ e));
-      spans-are = λ e. a .spans ∙ ap (λ k. registersFrom k (groupsSaid code) (runOf code text start (rowOf way)) registers)
-          (same ∙ e)
-          ∙ ap (λ k. registersFrom 0 k (runOf code text start (rowOf way)) registers) (m .groups-said)
-          ∙ ap (λ o. spans g o ++ drop (registersOf g) registers) (found e);
+      answers = λ e. a .replies ∙ ap (λ k. replyTo k (best M) (count M)) (same ∙ e)
+          ∙ ap₂ answerOf (found e) (sym (counted-rows a (same ∙ e)));
+      spans-are = λ e. a .spans ∙ ap (λ k. registersFrom k (groupsSaid code) (best M) registers) (same ∙ e)
+          ∙ ap₂ (λ k o. registersFrom 0 k o registers) (m .groups-said) (found e);
       refuses = λ k e. turned-rows a k (same ∙ e) .0;
     }
 
--- So do the calls on what `compile` was given and left.
-pub record Compiled (way : Way) (s table text : List ℕ) (start n g : ℕ) (registers registers′ : List ℤ) (workspace : List ℕ)
-    (answer : Answer) : Type 0 where
+-- So do the calls on what was compiled, plain or tidied.
+pub record Answers (tidying : Bool) (way : Way) (s table text : List ℕ) (start n g : ℕ) (registers registers′ : List ℤ)
+    (workspace : List ℕ) (answer : Answer) : Type 0 where
   pub node : Node
   pub is-read : reading s (length table) ≡ pattern node g
-  pub standard : Standard way node n g text start registers registers′ workspace answer
+  pub standard : Standard way (shaped tidying node) n g text start registers registers′ workspace answer
 
-pub compiled-standard : (way : Way) {s text : List ℕ} {start : ℕ} {table table′ code code′ : List ℕ}
-    {registers registers′ : List ℤ}
-    {workspace workspace′ : List ℕ} {n g : ℕ} {answer : Answer} → Bytes s → Bytes text → Compiles s table table′ code code′
-    (Rows n g)
+pub compiled-standard : (tidying : Bool) (way : Way) {s text : List ℕ} {start : ℕ} {table table′ code code′ : List ℕ}
+    {registers registers′ : List ℤ} {workspace workspace′ : List ℕ} {n g : ℕ} {answer : Answer} → Bytes s → Bytes text
+    → Compiles tidying s table table′ code code′ (Rows n g)
     → Answered code′ text start (rowOf way) registers workspace answer registers′ workspace′
-    → Compiled way s table text start n g registers registers′ workspace answer
-compiled-standard way {s} {table = table} {code = code} {n = n} {g = g} bs bt h a =
-    let m : Made s table code n g = made s table code n g bs (sym (h .answers)) in
+    → Answers tidying way s table text start n g registers registers′ workspace answer
+compiled-standard tidying way {s} {table = table} {code = code} {n = n} {g = g} bs bt h a =
+    let m : Compiled tidying s table code n g = compiled tidying s table code n g bs (sym (h .answers)) in
     record {
       node = m .node;
       is-read = m .is-read;
-      standard = answers-standard way bt (subst (λ (c : List ℕ). Coded c n g (m .node)) (sym (h .code-is)) (m .is-coded)) a;
+      standard = answers-standard way bt (rw (h .code-is) (m .is-coded)) a;
     }

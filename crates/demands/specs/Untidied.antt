@@ -20,9 +20,8 @@ use Rattle.tidying_laws.specs.Laws.{t1, t2, t3, t4, t5, t6, t7, t8, t9, filled,
 use Rattle.tidying_laws.specs.Tidier.{places, lowest, found, tidyStep, tidies, tidy}
 use Rattle.reading_atoms.specs.Braces.{numberGo, numberAt, bracesAt, quantifierAt}
 use Rattle.reading_items.specs.Reading.{openingAt, itemBy, itemAt, sequenceGo, alternativesGo, reading}
-use Rattle.compiler.specs.Compiling.{tableAt}
+use Rattle.compiler.specs.Compiling.{plain, tidied, tableAt, Compiles}
 use Rattle.compiler.specs.declared.Compilation.{Compilation}
-use Rattle.compiler_tidied.specs.Compiling.{tidiedTableAt, CompilesTidied}
 
 -- Buffers of zeros that are enough for a pattern of four bytes.
 abbrev pub table : List ℕ
@@ -36,27 +35,27 @@ pub record Tidying : Type 0 where
   pub answer : List ℕ → Compilation
   pub table′ : List ℕ → List ℕ
   pub code′ : List ℕ → List ℕ
-  pub compiles : (s : List ℕ) → CompilesTidied s table (table′ s) code (code′ s) (answer s)
+  pub compiles : (s : List ℕ) → Compiles tidied s table (table′ s) code (code′ s) (answer s)
 
 -- The second record of `a{1}` is the quantifier's, of kind 7, and there is none of the tidied pattern.
-plain-word : getD (tableAt (bytes "a{1}") table code) 16 0 ≡ 7
+plain-word : getD (tableAt plain (bytes "a{1}") table code) 16 0 ≡ 7
 unfolding reading alternativesGo sequenceGo itemAt itemBy openingAt quantifierAt bracesAt numberAt numberGo parts isDigit sizeOf
     setOf wordOf recordsIn ownRecord wordsIn lo hi
 plain-word = refl
 
-tidied-word : getD (tidiedTableAt (bytes "a{1}") table code) 16 0 ≡ 0
+tidied-word : getD (tableAt tidied (bytes "a{1}") table code) 16 0 ≡ 0
 unfolding reading alternativesGo sequenceGo itemAt itemBy openingAt quantifierAt bracesAt numberAt numberGo parts isDigit sizeOf
     tidy tidies tidyStep found lowest laws t1 t2 t3 t4 t5 t6 t7 t8 t9 places weight same decList decOption ℕ-discrete
     groupFree groups filled distinct possible run glues share noBytes has bit setOf wordOf recordsIn ownRecord wordsIn lo hi
 tidied-word = refl
 
 -- The first word of a table is the kind of the first record: 1 for the empty pattern, 2 for `a`.
-empty-kind : getD (tidiedTableAt [] table code) 0 0 ≡ 1
+empty-kind : getD (tableAt tidied [] table code) 0 0 ≡ 1
 unfolding reading alternativesGo sequenceGo parts sizeOf tidy tidies tidyStep found lowest laws t1 t2 t3 t4 t5 t6 t7 t8 t9 places
     weight recordsIn ownRecord wordsIn lo hi
 empty-kind = refl
 
-set-kind : getD (tidiedTableAt (bytes "a") table code) 0 0 ≡ 2
+set-kind : getD (tableAt tidied (bytes "a") table code) 0 0 ≡ 2
 unfolding reading alternativesGo sequenceGo itemAt itemBy openingAt quantifierAt parts sizeOf
     tidy tidies tidyStep found lowest laws t1 t2 t3 t4 t5 t6 t7 t8 t9 places weight same decList decOption ℕ-discrete
     groupFree groups filled distinct possible run glues share noBytes has bit setOf wordOf recordsIn ownRecord wordsIn lo hi
@@ -64,7 +63,7 @@ set-kind = refl
 
 module _ (t : Tidying) where
   -- A tidier that returns its input.
-  pub returning-input : ((s : List ℕ) → t .table′ s ≡ tableAt s table code) → ⊥
+  pub returning-input : ((s : List ℕ) → t .table′ s ≡ tableAt plain s table code) → ⊥
   returning-input f =
       let s : List ℕ = bytes "a{1}" in
       let no : _≡_ {A = ℕ} 0 7

@@ -1,0 +1,11 @@
+pub mod Runs
+pub mod Tidied
+pub mod Demands
+pub mod Pinned
+pub mod Impossible
+pub mod Untidied
+pub mod HostPatterns
+pub mod HostCodes
+pub mod HostRuns
+pub mod Lines
+mod Compilations

@@ -1,0 +1,70 @@
+-- The promises leave one reply for every input: what is said to be a definition of the inputs is the same for any two replies.
+use mathlib.Core.Path.{_≡_, sym, ap, _∙_}
+use mathlib.Core.Bool.{Bool}
+use mathlib.Core.List.{List}
+use Prim.Native.Nat.{ℕ}
+use native.Mathlib.Omega.{arith}
+use lib.IntN.{ℤ}
+use lib.ListN.{length}
+use Rattle.machine.specs.Replies.{lend, reply, registersAfter}
+use Rattle.compiler.specs.Compiling.{Compiles}
+use Rattle.compiler.specs.declared.Compilation.{Compilation}
+use Rattle.engine.specs.Answers.{replyOf, Answered}
+use Rattle.engine.specs.declared.Answer.{Answer}
+use Rattle.engine.specs.declared.Answer.the-variants.{Found, Missing, Refused}
+use Rattle.millkettle.specs.Finding.{Finds}
+use Rattle.millkettle.specs.declared.Finding.{Finding}
+use Rattle.host.specs.Surface.{CompilesBytes, RunsBytes}
+use Rattle.host.specs.declared.Compiled.{Compiled}
+use Rattle.host.specs.declared.Ran.{Ran}
+
+-- Two replies that are one definition's agree.
+pub agree : {A : Type 0} {a b definition : A} → a ≡ definition → b ≡ definition → a ≡ b
+agree e f = e ∙ sym f
+
+-- So do two of `compile`, or of `compile_tidied`: answer, table and code.
+pub one-compilation : {tidying : Bool} {s table t₁ t₂ code c₁ c₂ : List ℕ} {a₁ a₂ : Compilation}
+    → Compiles tidying s table t₁ code c₁ a₁ → Compiles tidying s table t₂ code c₂ a₂ → (a₁ ≡ a₂) × (t₁ ≡ t₂) × (c₁ ≡ c₂)
+one-compilation f g = (agree (f .answers) (g .answers), agree (f .table-is) (g .table-is), agree (f .code-is) (g .code-is))
+
+-- Answers of one reply are the same.
+one-answer : (r q : Answer) → replyOf r ≡ replyOf q → r ≡ q
+one-answer (Found n) (Found m) e = cc
+one-answer (Found n) (Missing m) e = absurd (let z : _≡_ {A = ℕ} 0 1 = cc in omega arith)
+one-answer (Found n) (Refused m) e = absurd (let z : _≡_ {A = ℕ} 0 1 = cc in omega arith)
+one-answer (Missing n) (Found m) e = absurd (let z : _≡_ {A = ℕ} 0 1 = cc in omega arith)
+one-answer (Missing n) (Missing m) e = cc
+one-answer (Missing n) (Refused m) e = absurd (let z : _≡_ {A = ℕ} 0 1 = cc in omega arith)
+one-answer (Refused n) (Found m) e = absurd (let z : _≡_ {A = ℕ} 0 1 = cc in omega arith)
+one-answer (Refused n) (Missing m) e = absurd (let z : _≡_ {A = ℕ} 0 1 = cc in omega arith)
+one-answer (Refused n) (Refused m) e = cc
+
+-- Two of `match_at`, or of `search`: answer and registers, whatever their workspaces of one length held.
+pub one-run : {code text : List ℕ} {start row : ℕ} {before after after′ : List ℤ}
+    {work work′ left left′ : List ℕ} {r q : Answer}
+    → length work ≡ length work′ → Answered code text start row before work r after left
+    → Answered code text start row before work′ q after′ left′ → (r ≡ q) × (after ≡ after′)
+one-run {code} {text} {start} {row} {before} {r = r} {q = q} e a b = (
+  one-answer r q (a .replies ∙ ap (λ n. reply code (lend text start (length before) n) row) e ∙ sym (b .replies)),
+  a .spans ∙ ap (λ n. registersAfter code (lend text start (length before) n) row before) e ∙ sym (b .spans),
+)
+
+-- Two of `find`: answer, table, code and registers.
+pub one-finding : {s text : List ℕ} {start : ℕ} {table t₁ t₂ code c₁ c₂ : List ℕ} {before r₁ r₂ : List ℤ} {w w₁ w₂ : List ℕ}
+    {a₁ a₂ : Finding} → Finds s text start table t₁ code c₁ before r₁ w w₁ a₁
+    → Finds s text start table t₂ code c₂ before r₂ w w₂ a₂ → (a₁ ≡ a₂) × (t₁ ≡ t₂) × (c₁ ≡ c₂) × (r₁ ≡ r₂)
+one-finding f g = (
+  agree (f .answers) (g .answers),
+  agree (f .table-is) (g .table-is),
+  agree (f .code-is) (g .code-is),
+  agree (f .spans-are) (g .spans-are),
+)
+
+-- Two of a call on bytes: the numbers passed and the lent bytes.
+pub one-compiled : {tidying : Bool} {s code c d : List ℕ} {r q : Compiled}
+    → CompilesBytes tidying s code r c → CompilesBytes tidying s code q d → (r ≡ q) × (c ≡ d)
+one-compiled f g = (agree (f .answers) (g .answers), agree (f .code-is) (g .code-is))
+
+pub one-ran : {row start : ℕ} {code text registers c d : List ℕ} {r q : Ran}
+    → RunsBytes row code text start registers r c → RunsBytes row code text start registers q d → (r ≡ q) × (c ≡ d)
+one-ran f g = (agree (f .replies) (g .replies), agree (f .spans) (g .spans))

@@ -1,0 +1,1 @@
+// Theorems over the promises of the calls: nothing here runs.
