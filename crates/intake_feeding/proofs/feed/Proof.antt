@@ -6,7 +6,7 @@ use native.Mathlib.Omega.{arith}
 use borrow.Author.Needs.{needs}
 use borrow.Author.Tests.{leb-true, leb-false}
 use lib.ListN.{length}
-use Rattle.intake_report.specs.Wrote.{wrote-length}
+use Rattle.intake_report.specs.Wrote.{wrote-length, wrote-within}
 use Rattle.intake_lines.specs.Ended.{lineRoom}
 use Rattle.intake_feeding.specs.Fed.{workOf, Untouched}
 use Rattle.intake_feeding.specs.Laws.{Feeding, feeding-none, feeding-more, feeding-ends}
@@ -29,8 +29,7 @@ loop-holds c =
 sub-if2 : tie.Need-sub-if2 Inv-loop μ-loop
 sub-if2 c =
     let at-loop = c .before .before .before in
-    let w = at-loop .loop .inv .0 .text-is in
-    omega (arith, w .next, w .room, wrote-length w)
+    wrote-within (at-loop .loop .inv .0 .text-is)
 
 byte-there : tie.Need-shared-slice-read-step Inv-loop μ-loop
 byte-there c =
@@ -42,9 +41,8 @@ step-requires c κs =
     let at-if2 = c .before .before .before .before .before .before in
     let at-loop = at-if2 .before .before .before .before in
     let here = at-loop .loop in
-    let w = here .inv .0 .text-is in
     let room = leb-true lineRoom (length (here .out) - here .fed .end) (at-if2 .if2 .taken) in
-    (here .inv .0 .few, omega (arith, w .next, w .room, wrote-length w, room))
+    (here .inv .0 .few, omega (arith, wrote-within (here .inv .0 .text-is), room))
 
 one-more : tie.Need-add-fed Inv-loop μ-loop
 one-more c =
