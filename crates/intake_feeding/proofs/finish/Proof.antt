@@ -12,7 +12,8 @@ empty c =
     let at-clamp = at-if1 .before in
     let start = at-clamp .before .before .before .before in
     let a = start .args in
-    let none = last-none (a .phase) (a .kept) (a .line .now) (a .code .now) (sym (at-clamp .clamp .ensures) ∙ at-if1 .if1 .taken) in
+    let none = last-none (a .phase) (a .kept) (a .line .now) (a .code .now)
+    (sym (at-clamp .clamp .ensures) ∙ at-if1 .if1 .taken) in
     (rw none (at-feed .feed .ensures .0), at-feed .feed .ensures .1)
 
 line : tie.Need-returns-2
