@@ -1,8 +1,8 @@
 /* Millkettle for C and for whatever speaks C: a regular-expression matcher whose every promise is proved.
  *
- * Link target/staticlib/libhost.a, which `rt staticlib host` writes for x86-64 Linux. It uses memcpy, memmove and
- * memset and nothing else: no heap, no file, no global state, so calls may run at the same time on memory of their
- * own.
+ * Link target/staticlib/libhost.a, which `rt staticlib host` writes for x86-64 Linux. Of C it needs memcpy, memmove
+ * and memset and nothing else: no heap, no file, no global state, so calls may run at the same time on memory of
+ * their own.
  *
  * Words are passed as bytes, four to a word, low byte first; a register is a signed word in two's complement. Where
  * a slice's length is no multiple of four, the bytes behind its last whole word are neither read nor written.

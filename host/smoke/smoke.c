@@ -1,4 +1,5 @@
-/* Lines of the outline, called from C. Writes nothing and ends with 0 if all hold; else says which does not. */
+/* A call of each kind from C: that the header's structs, sizes and bytes are the archive's. Writes nothing and ends with 0 if all
+ * holds; else says what does not. The lines whose answers are known are asked from Rust. */
 #include "../millkettle.h"
 
 int printf(const char *format, ...);

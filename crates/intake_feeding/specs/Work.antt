@@ -1,12 +1,13 @@
 -- The intake's work byte by byte: what is kept between two pieces of the input, and what is written. Definitions only.
 use mathlib.Core.Bool.{cond}
 use mathlib.Core.List.{List, [], _∷_, _++_}
-use Prim.Native.Nat.{ℕ, _+_}
+use Prim.Native.Nat.{ℕ, suc, _+_, _-_}
 use lib.Dec.{eqb, leb}
 use lib.ListN.{length, replicate}
-use Rattle.intake_lines.specs.Intake.{lineLimit}
 use Rattle.meaning.specs.Limits.{codeSize}
-use Rattle.intake_lines.specs.Ended.{phaseThen, codeThen, textThen}
+use Rattle.intake_report.specs.Texts.{lf}
+use Rattle.intake_lines.specs.Intake.{lineLimit}
+use Rattle.intake_lines.specs.Ended.{lineRoom, phaseThen, codeThen, textThen}
 use Rattle.intake_lines.specs.declared.Phase.{Phase}
 use Rattle.intake_lines.specs.declared.Phase.the-variants.{Pattern}
 
@@ -50,10 +51,19 @@ unfoldable pub workBehind : Work → List ℕ → Work
 workBehind w [] = w
 workBehind w (byte ∷ l) = workBehind (workAt w byte) l
 
--- The input's end: a last line without LF counts unless it is empty.
+-- How many bytes of a piece are taken: each asks for room for a line, and has what those before it left of the room.
+unfoldable pub takenOf : Work → ℕ → List ℕ → ℕ
+takenOf w room [] = 0
+takenOf w room (byte ∷ l) =
+    cond (leb lineRoom room) (suc (takenOf (workAt w byte) (room - length (textAt w byte)) l)) 0
+
+-- The input's end: a last line without LF counts unless it is empty, as if LF ended it.
 abbrev pub unlessEmpty : List ℕ → List ℕ → List ℕ
 unlessEmpty [] text = []
 unlessEmpty (byte ∷ l) text = text
+
+abbrev pub lastBytes : Work → List ℕ
+lastBytes w = unlessEmpty (w .kept) lf
 
 abbrev pub lastText : Work → List ℕ
 lastText w = unlessEmpty (w .kept) (lineText w)

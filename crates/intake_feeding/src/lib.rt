@@ -1,11 +1,10 @@
 // The intake's work on an input that comes in pieces: bytes are kept until their line ends, and its line is written to a buffer.
 ghost use mathlib.Core.Path.{_≡_};
-ghost use Prim.Native.Nat.{_+_, _≤_, _<_};
+ghost use Prim.Native.Nat.{_+_, _≤_, min};
 ghost use lib.ListN.{length};
-ghost use Rattle.intake_report.specs.Wrote.{Wrote};
 ghost use Rattle.intake_lines.specs.Ended.{lineRoom};
-ghost use Rattle.intake_feeding.specs.Work.{keptLimit, lastText};
-ghost use Rattle.intake_feeding.specs.Fed.{workOf, Keeps, Steps, Feeds};
+ghost use Rattle.intake_feeding.specs.Work.{keptLimit, lastBytes};
+ghost use Rattle.intake_feeding.specs.Fed.{workOf, Keeps, Steps, Feeds, Untouched};
 use intake_lines::LINE_LIMIT;
 use intake_lines::LINE_ROOM;
 use intake_lines::Phase;
@@ -17,12 +16,21 @@ use meaning::limits::WORKSPACE_SIZE;
 // A line is kept up to one byte more than its limit, which shows that it is too long.
 pub const KEPT_LIMIT: usize = LINE_LIMIT + 1;
 
-// Where the work stands, how many bytes are kept of the present line and taken of the piece, and where what was written ends.
+// Where the work stands, how many bytes are kept of the present line and taken of the piece, where what was written ends, and
+// whether bytes of the piece are left since there is no room for a line more.
 pub struct Fed {
     pub phase: Phase,
     pub kept: usize,
     pub taken: usize,
     pub end: usize,
+    pub full: bool,
+}
+
+// Of what is said to be kept, as much as the line has.
+fn clamp(kept: usize, line: &[u8]) -> usize
+    ensures { λ r. ⌜ r ≡ min kept (length (now (line .entry))) ⌝ }
+{
+    if kept < line.len() { kept } else { line.len() }
 }
 
 // A byte more of the present line. It asks for the whole line buffer, and that no more bytes are kept than there may be.
@@ -37,52 +45,45 @@ fn keep(line: &mut [u8], kept: usize, byte: u8) -> usize
     kept + 1
 }
 
-// The next byte of a piece. It asks that there is one, that no more bytes are kept than there may be, and for room.
+// The next byte of a piece. It asks that no more bytes are kept than there may be, and for room for a line.
 fn step(
     fed: Fed,
-    piece: &[u8],
+    byte: u8,
     line: &mut [u8; KEPT_LIMIT],
     table: &mut [u32; TABLE_SIZE],
     code: &mut [u32; CODE_SIZE],
     workspace: &mut [u32; WORKSPACE_SIZE],
     out: &mut [u8],
 ) -> Fed
-    requires { ⌜ (fed .taken < length (now piece)) × (fed .kept ≤ keptLimit) × (fed .end + lineRoom ≤ length (now out)) ⌝ }
-    ensures { λ r. ⌜ Steps fed (now (piece .entry)) (now (line .entry)) (now (line .exit)) (now (code .entry)) (now (code .exit))
+    requires { ⌜ (fed .kept ≤ keptLimit) × (fed .end + lineRoom ≤ length (now out)) ⌝ }
+    ensures { λ r. ⌜ Steps fed byte (now (line .entry)) (now (line .exit)) (now (code .entry)) (now (code .exit))
         (now (out .entry)) (now (out .exit)) r ⌝ }
 {
     let phase = fed.phase;
     let kept = fed.kept;
-    let at = fed.taken;
-    if piece[at] == LF {
-        let bytes: &[u8] = line;
-        let ended = intake_lines::end_line(
-            phase,
-            &bytes[..kept],
-            table,
-            code,
-            workspace,
-            out,
-            fed.end,
-        );
-        let next = ended.phase;
+    let at = fed.end;
+    if byte != LF {
         return Fed {
-            phase: next,
-            kept: 0,
-            taken: at + 1,
-            end: ended.end,
+            phase,
+            kept: keep(line, kept, byte),
+            taken: fed.taken,
+            end: at,
+            full: false,
         };
     }
-    let more = keep(line, kept, piece[at]);
+    let bytes: &[u8] = line;
+    let ended = intake_lines::end_line(phase, &bytes[..kept], table, code, workspace, out, at);
+    let next = ended.phase;
     Fed {
-        phase,
-        kept: more,
-        taken: at + 1,
-        end: fed.end,
+        phase: next,
+        kept: 0,
+        taken: fed.taken,
+        end: ended.end,
+        full: false,
     }
 }
 
-// A piece of the input, as far as there is room for a line. It asks that no more bytes are kept than there may be.
+// A piece of the input, as far as there is room for a line. Where no byte is taken nothing changes.
 pub fn feed(
     phase: Phase,
     kept: usize,
@@ -93,40 +94,44 @@ pub fn feed(
     workspace: &mut [u32; WORKSPACE_SIZE],
     out: &mut [u8],
 ) -> Fed
-    requires { ⌜ kept ≤ keptLimit ⌝ }
     ensures { λ r. ⌜ Feeds phase kept (now (piece .entry)) (now (line .entry)) (now (line .exit)) (now (code .entry))
         (now (code .exit)) (now (out .entry)) (now (out .exit)) r ⌝ }
+    ensures { λ r. ⌜ (r .taken ≡ 0 → Untouched (now (line .entry)) (now (line .exit)) (now (table .entry)) (now (table .exit))
+        (now (workspace .entry)) (now (workspace .exit))) ⌝ }
 {
     let mut fed = Fed {
         phase,
-        kept,
+        kept: clamp(kept, line),
         taken: 0,
         end: 0,
+        full: false,
     };
     while fed.taken < piece.len() && LINE_ROOM <= out.len() - fed.end {
-        fed = step(fed, piece, line, table, code, workspace, out);
+        let at = fed.taken;
+        fed = step(fed, piece[at], line, table, code, workspace, out);
+        fed.taken = at + 1;
     }
+    fed.full = fed.taken < piece.len();
     fed
 }
 
-// The input's end, with a last line that has no LF. It asks that no more bytes are kept than there may be, and for room.
+// The input's end: a last line without LF counts unless it is empty, as if LF ended it.
 pub fn finish(
     phase: Phase,
     kept: usize,
-    line: &[u8; KEPT_LIMIT],
+    line: &mut [u8; KEPT_LIMIT],
     table: &mut [u32; TABLE_SIZE],
     code: &mut [u32; CODE_SIZE],
     workspace: &mut [u32; WORKSPACE_SIZE],
     out: &mut [u8],
-) -> usize
-    requires { ⌜ (kept ≤ keptLimit) × (lineRoom ≤ length (now out)) ⌝ }
-    ensures { λ r. ⌜ Wrote (now (out .entry)) (now (out .exit)) 0
-        (lastText (workOf phase kept (now (line .entry)) (now (code .entry)))) r ⌝ }
+) -> Fed
+    ensures { λ r. ⌜ Feeds phase kept (lastBytes (workOf phase kept (now (line .entry)) (now (code .entry))))
+        (now (line .entry)) (now (line .exit)) (now (code .entry)) (now (code .exit)) (now (out .entry)) (now (out .exit)) r ⌝ }
+    ensures { λ r. ⌜ (r .taken ≡ 0 → Untouched (now (line .entry)) (now (line .exit)) (now (table .entry)) (now (table .exit))
+        (now (workspace .entry)) (now (workspace .exit))) ⌝ }
 {
-    if kept == 0 {
-        return 0;
+    if clamp(kept, line) == 0 {
+        return feed(phase, kept, b"", line, table, code, workspace, out);
     }
-    let bytes: &[u8] = line;
-    let ended = intake_lines::end_line(phase, &bytes[..kept], table, code, workspace, out, 0);
-    ended.end
+    feed(phase, kept, b"\n", line, table, code, workspace, out)
 }

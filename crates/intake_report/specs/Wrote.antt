@@ -44,6 +44,10 @@ module _ {a b : List ℕ} {at m : ℕ} {x : List ℕ} (p : Wrote a b at x m) whe
       ap length (p .bytes) ∙ length-append (take at a ++ x) (drop (at + length x) a)
       ∙ omega (arith, front, length-drop (at + length x) a, p .room, p .next)
 
+  -- The place behind it lies in the buffer.
+  pub wrote-within : m ≤ length b
+  wrote-within = omega (arith, p .next, p .room, wrote-length)
+
   -- A second write from where the first ended: both are one write of the two texts.
   pub and-then : {c : List ℕ} {y : List ℕ} {n : ℕ} → Wrote b c m y n → Wrote a c at (x ++ y) n
   and-then {c} {y} {n} q =

@@ -1,33 +1,50 @@
 // Code that passes the check and that no compiler writes: the steps alone say what it does. It has nine rows, all Accept but
-// those that are given, as ` 5 Jump    5 0;`: row, kind and two operands. A word that a row does not use is 1: no run reads it.
+// those that are given, as ` 5 Jump    5 0;`: row, kind and two operands.
 ghost use Prim.Native.Nat.{_+_, _≤_};
 ghost use lib.ListN.{length};
 use crate::answers::run;
 use crate::questions::byte_at;
 use crate::questions::digit_at;
+use machine::ACCEPT;
+use machine::BEGIN;
+use machine::CLOSE;
+use machine::CONSUME;
+use machine::END;
+use machine::FIRST;
+use machine::FORK;
+use machine::GROUPS;
+use machine::JUMP;
+use machine::KIND;
+use machine::OPEN;
+use machine::ROWS;
+use machine::SECOND;
+use machine::SET;
+use meaning::limits::ROW_WORDS;
 
 // The kind that a name's third letter tells.
 fn kind_of(letter: u8) -> u32 {
     match letter {
-        b'n' => 2,
-        b'm' => 3,
-        b'r' => 4,
-        b'e' => 5,
-        b'o' => 6,
-        b'g' => 8,
-        b'd' => 9,
-        _ => 1,
+        b'n' => CONSUME,
+        b'm' => JUMP,
+        b'r' => FORK,
+        b'e' => OPEN,
+        b'o' => CLOSE,
+        b'g' => BEGIN,
+        b'd' => END,
+        _ => ACCEPT,
     }
 }
 
-// A row. Its set has the bytes 60 to 7F hex, and few others.
+// A row. A Consume takes the bytes 60 to 7F hex.
 fn put_row(code: &mut [u32; 120], row: u8, kind: u32, a: u8, b: u8) {
     if row < 9 {
-        let at = 12 * (row as usize) + 12;
-        code[at] = kind;
-        code[at + 1] = a as u32;
-        code[at + 2] = b as u32;
-        code[at + 7] = 4294967295;
+        let at = ROW_WORDS * (row as usize) + ROW_WORDS;
+        code[at + KIND] = kind;
+        code[at + FIRST] = a as u32;
+        code[at + SECOND] = b as u32;
+        if kind == CONSUME {
+            code[at + SET + 3] = !0;
+        }
     }
 }
 
@@ -53,15 +70,24 @@ fn read_rows(code: &mut [u32; 120], rows: &[u8]) {
     }
 }
 
+// Nine rows of Accept, with one number in all words that they do not use.
+fn accepts(unused: u32) -> [u32; 120] {
+    let mut code = [unused; 120];
+    code[ROWS] = 9;
+    code[GROUPS] = 0;
+    for row in 1..10usize {
+        code[ROW_WORDS * row] = ACCEPT;
+    }
+    code
+}
+
 fn answer(code: &[u32; 120], text: &[u8]) {
     run(false, code, text, 0);
 }
 
-// The answer to the code of some rows, matched at the start of a text.
-pub fn ask(rows: &[u8], text: &[u8]) {
-    let mut code = [1u32; 120];
-    code[0] = 9;
-    code[1] = 0;
+// The answer to the code of some rows, with a number in the words that are not used, matched at the start of a text.
+pub fn ask(rows: &[u8], text: &[u8], unused: u32) {
+    let mut code = accepts(unused);
     read_rows(&mut code, rows);
     answer(&code, text);
 }

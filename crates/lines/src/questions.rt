@@ -1,7 +1,8 @@
 // The questions: `match 0 PATTERN`, `search 0 PATTERN` and `find 0 PATTERN` with the start, `compile PATTERN` and
-// `tidied PATTERN`, and `rows` with rows by hand.
-ghost use Prim.Native.Nat.{_<_, _≤_};
-ghost use lib.ListN.{length};
+// `tidied PATTERN`, and `rows` with rows by hand, or `unused` with a 1 in each word that they do not use.
+ghost use mathlib.Core.Path.{_≡_};
+ghost use Prim.Native.Nat.{_-_, _<_, _≤_};
+ghost use lib.ListN.{length, getD};
 use crate::answers;
 use crate::answers::code_of;
 use crate::answers::compiled;
@@ -11,15 +12,19 @@ use crate::answers::tidied;
 use crate::made;
 
 // The byte at a place, or 0 behind the end.
-pub fn byte_at(line: &[u8], at: usize) -> u8 {
+pub fn byte_at(line: &[u8], at: usize) -> u8
+    ensures { λ r. ⌜ r ≡ getD (now (line .entry)) at 0 ⌝ }
+{
     if at < line.len() {
         return line[at];
     }
     0
 }
 
-// The number that a digit says.
-pub fn digit_at(line: &[u8], at: usize) -> u8 {
+// The number that a digit says: how far it is from `0`.
+pub fn digit_at(line: &[u8], at: usize) -> u8
+    ensures { λ r. ⌜ r ≡ getD (now (line .entry)) at 0 - 48 ⌝ }
+{
     let byte = byte_at(line, at);
     if byte < b'0' {
         return 0;
@@ -74,9 +79,13 @@ fn ask(question: &[u8], text: &[u8]) {
         b'f' => find(rest(question, 7), text, digit_at(question, 5) as usize),
         b'c' => compiled(rest(question, 8)),
         b't' => tidied(rest(question, 7)),
+        b'u' => {
+            on(text);
+            made::ask(rest(question, 6), text, 1)
+        }
         _ => {
             on(text);
-            made::ask(rest(question, 4), text)
+            made::ask(rest(question, 4), text, 0)
         }
     }
 }

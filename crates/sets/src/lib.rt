@@ -3,7 +3,7 @@ ghost use mathlib.Core.Path.{_≡_};
 ghost use mathlib.Core.Bool.{true, false, not, _||_};
 ghost use Prim.Native.Nat.{_<_};
 ghost use lib.Dec.{eqb};
-ghost use Rattle.sets.specs.Sets.{Holds, has, sameBytes, between, isDigit, isWord, isSpace, isDot, inEscape};
+ghost use Rattle.sets.specs.Sets.{Holds, has, sameBytes, between, isDot, inEscape};
 
 // The set of no byte.
 pub fn none() -> [u32; 8]
@@ -17,14 +17,6 @@ pub fn all() -> [u32; 8]
     ensures { λ r. ⌜ Holds r (λ x. true) ⌝ }
 {
     [!0u32; 8]
-}
-
-// Whether a byte is in a set.
-pub fn has(set: [u32; 8], b: u8) -> bool
-    ensures { λ r. ⌜ r ≡ has set b ⌝ }
-{
-    let word = set[(b / 32) as usize];
-    (word >> (b % 32) as u32) & 1 == 1
 }
 
 // A set with one byte more.
@@ -120,27 +112,6 @@ pub fn escape(k: usize) -> [u32; 8]
     ensures { λ r. ⌜ Holds r (inEscape k) ⌝ }
 {
     ESCAPES[k]
-}
-
-// The digits, \d.
-pub fn digit() -> [u32; 8]
-    ensures { λ r. ⌜ Holds r isDigit ⌝ }
-{
-    escape(0)
-}
-
-// The word bytes, \w.
-pub fn word() -> [u32; 8]
-    ensures { λ r. ⌜ Holds r isWord ⌝ }
-{
-    escape(2)
-}
-
-// The spaces, \s.
-pub fn space() -> [u32; 8]
-    ensures { λ r. ⌜ Holds r isSpace ⌝ }
-{
-    escape(4)
 }
 
 // What the dot takes: all but 0A and 0D.

@@ -3,7 +3,7 @@
 mod common;
 use common::*;
 use millkettle::raw::{self, Compiled, Ran};
-use reference::steps::Entry;
+use reference::steps::{Entry, TEXT_LIMIT};
 
 /// Lent bytes before a call.
 const STALE: u8 = 0xA5;
@@ -164,21 +164,32 @@ fn r20_by_the_codes_words() {
 
 #[test]
 fn r21_by_the_texts_length() {
-    let mut text = vec![b'b'; 1_048_577];
-    text[1_048_575] = b'a';
+    let mut text = vec![b'b'; TEXT_LIMIT + 1];
+    text[TEXT_LIMIT - 1] = b'a';
     let code = code_of(b"(a)$");
     assert_eq!(run_number(&code, &text, 0, 16), 21);
-    // 21 comes before 22 and 23.
-    assert_eq!(run_number(&code, &text, 1_048_578, 0), 21);
-    let longest = &text[..1_048_576];
+    let longest = &text[..TEXT_LIMIT];
     let mut registers = [STALE; 16];
     let ran = raw::search(&code, longest, 0, &mut registers);
     assert_eq!((ran.number, ran.found), (0, 1));
-    let ends = [1_048_575, 1_048_576, 1_048_575, 1_048_576];
-    assert_eq!(registers.to_vec(), bytes_of(&ends));
+    let (start, end) = (TEXT_LIMIT as u32 - 1, TEXT_LIMIT as u32);
+    assert_eq!(registers.to_vec(), bytes_of(&[start, end, start, end]));
     // Rows 0, 5, 6, 7, 1, 2, 3 at the first position, the same behind row 4 at the others, and at
     // the end rows 8 to 11, of which Accept drops the thread behind.
-    assert_eq!(ran.count, 7 + 8 * 1_048_575 + 4);
+    assert_eq!(ran.count, 7 + 8 * u64::from(start) + 4);
+}
+
+/// All that turns a run away, and then one thing less in each line.
+#[test]
+fn r20_to_r23_in_order() {
+    let code = code_of(b"a");
+    let text = vec![b'a'; TEXT_LIMIT + 1];
+    let longest = &text[1..];
+    assert_eq!(run_number(&code[..4 * 119], &text, TEXT_LIMIT + 2, 4), 20);
+    assert_eq!(run_number(&code, &text, TEXT_LIMIT + 2, 4), 21);
+    assert_eq!(run_number(&code, longest, TEXT_LIMIT + 1, 4), 22);
+    assert_eq!(run_number(&code, longest, TEXT_LIMIT, 4), 23);
+    assert_eq!(run_number(&code, longest, TEXT_LIMIT, 8), 0);
 }
 
 #[test]

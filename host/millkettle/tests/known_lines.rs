@@ -1,82 +1,85 @@
-//! Every line of "Lines we know the answer to", the whole code of `a*`, and "Errors that look
-//! right", through the safe wrapper.
+//! The lines whose answers are known, the whole code of `a*`, and "Errors that look right".
+#![cfg(feature = "tidied")]
 
 mod common;
-use common::words_of;
-use millkettle::{Entry, Pattern};
+use common::{bytes_of, register_words, run_raw, words_of};
+use millkettle::{raw, Entry, Pattern};
+use reference::intake::CODE_WORDS;
+use reference::lines::{lines, Answers, Line, Run};
+use reference::refusal::{refuse, Refusal, CODE_TOO_SMALL, TABLE_TOO_SMALL};
+use reference::rows::ROW_WORDS;
 
 fn pattern(bytes: &str) -> Pattern {
     Pattern::new(bytes.as_bytes()).unwrap_or_else(|error| panic!("{error}"))
 }
 
-/// The spans of a run from 0, empty for none, and the count.
-fn run(entry: Entry, bytes: &str, text: &str) -> (Vec<i32>, u64) {
+/// The spans of a run from 0, empty for none.
+fn run(entry: Entry, bytes: &str, text: &str) -> Vec<i32> {
     let answer = pattern(bytes).run(entry, text.as_bytes(), 0).unwrap();
-    (answer.found.map_or(Vec::new(), |found| found.spans().to_vec()), answer.rows_executed)
+    answer.found.map_or(Vec::new(), |found| found.spans().to_vec())
 }
 
 fn matched(bytes: &str, text: &str) -> Vec<i32> {
-    run(Entry::MatchAt, bytes, text).0
+    run(Entry::MatchAt, bytes, text)
 }
 
 fn searched(bytes: &str, text: &str) -> Vec<i32> {
-    run(Entry::Search, bytes, text).0
-}
-
-fn refused(bytes: &str) -> (u32, usize) {
-    let error = Pattern::new(bytes.as_bytes()).expect_err(bytes);
-    (error.number(), error.place())
+    run(Entry::Search, bytes, text)
 }
 
 const NONE: [i32; 0] = [];
 
-#[test]
-fn lines_marked_p() {
-    assert_eq!(matched("a|ab", "ab"), [0, 1]);
-    assert_eq!(matched("(?:(a)|b)*", "ab"), [0, 2, -1, -1]);
-    assert_eq!(matched("a(b*)c", "abbcd"), [0, 4, 1, 3]);
-    assert_eq!(searched("(a*)b", "caabd"), [1, 4, 1, 3]);
-    assert_eq!(matched("(a|a*)", "aa"), [0, 1, 0, 1]);
-    assert_eq!(matched("(?:a?b??)*", "ab"), [0, 2]);
-    assert_eq!(matched("(a*)*", "b"), [0, 0, -1, -1]);
-    assert_eq!(matched("(a*)+", "b"), [0, 0, 0, 0]);
-    assert_eq!(matched("(a*)?", "b"), [0, 0, -1, -1]);
-    assert_eq!(matched("(?:a*)*?(ab|b)", "aab"), [0, 3, 2, 3]);
-    assert_eq!(matched("a*?(ab|b)", "aab"), [0, 3, 1, 3]);
+/// The surface, on bytes.
+struct Surface;
+
+impl Answers for Surface {
+    fn compile(&self, pattern: &[u8], tidied: bool) -> Result<Vec<u32>, Refusal> {
+        let compile = if tidied { raw::compile_tidied } else { raw::compile };
+        let mut code = [0; raw::CODE_BYTES];
+        let compiled = compile(pattern, &mut code);
+        if compiled.number != 0 {
+            return refuse(compiled.number, compiled.place);
+        }
+        Ok(words_of(&code))
+    }
+
+    fn run(&self, code: &[u32], on: Run, registers: &mut [i32; 4]) -> Result<(bool, u64), Refusal> {
+        let mut lent = bytes_of(&register_words(registers));
+        let ran = run_raw(on.entry, &bytes_of(code), on.text, on.start, &mut lent);
+        for (register, word) in registers.iter_mut().zip(words_of(&lent)) {
+            *register = word as i32;
+        }
+        if ran.number != 0 {
+            return refuse(ran.number, ran.place);
+        }
+        Ok((ran.found == 1, ran.count))
+    }
+}
+
+/// The refusal of what the surface has no room for: a pattern of more than 128 bytes, or code of
+/// more than 96 rows.
+fn beyond(line: &Line) -> Option<u32> {
+    let rows = line.written.rsplit(": rows ").next().and_then(|rows| rows.parse().ok());
+    if line.pattern().map_or(false, |pattern| pattern.len() > 128) {
+        Some(TABLE_TOO_SMALL)
+    } else if rows.map_or(false, |rows: usize| ROW_WORDS * (rows + 1) > CODE_WORDS) {
+        Some(CODE_TOO_SMALL)
+    } else {
+        None
+    }
 }
 
 #[test]
-fn lines_with_counts() {
-    assert_eq!(run(Entry::MatchAt, "", ""), (vec![0, 0], 3));
-    assert_eq!(run(Entry::Search, "", ""), (vec![0, 0], 4));
-    assert_eq!(run(Entry::Search, "a", "b"), (vec![], 13));
-    assert_eq!(matched("[^]", ""), NONE);
-    assert_eq!(searched("[^]", ""), NONE);
-    let found = pattern("").match_at(b"", 0).unwrap().unwrap();
-    assert_eq!(found.rows_executed(), 3);
-}
-
-#[test]
-fn lines_with_rows_and_refusals() {
-    // 1,024 rows are not refused 15, but the surface's code has room for 96.
-    assert_eq!(refused("a{508}"), (16, 0));
-    assert_eq!(refused("a{509}"), (15, 0));
-    assert_eq!(pattern("a{2,4}").rows(), 22);
-    assert_eq!(refused("a**"), (6, 2));
-    assert_eq!(refused("a{2000,1}"), (8, 1));
-    let a = pattern("a");
-    assert_eq!(a.search(b"a", 1), Ok(None));
-    assert_eq!(a.match_at(b"a", 1), Ok(None));
-    assert_eq!(a.search(b"a", 2).unwrap_err().number(), 22);
-    assert_eq!(a.match_at(b"a", 2).unwrap_err().number(), 22);
-}
-
-#[test]
-fn the_programs_lines() {
-    let sample = pattern("a|ab");
-    assert_eq!((sample.rows(), sample.groups()), (13, 0));
-    assert_eq!(searched("a|ab", "ab"), [0, 1]);
-    assert_eq!(searched("a|ab", "c"), NONE);
+fn the_programs_questions() {
+    let lines = lines();
+    assert!(lines.len() > 60);
+    for line in lines {
+        let written = match beyond(&line) {
+            Some(number) => format!("{}: refused {number} at 0", line.question),
+            None => line.written.clone(),
+        };
+        assert_eq!(line.answered_by(&Surface), written);
+    }
 }
 
 /// A row without a set: kind and operands.
@@ -176,17 +179,12 @@ fn what_a_pattern_may_hold() {
 #[test]
 fn errors_that_look_right() {
     // `r?` rewritten as `r` or empty.
-    assert_eq!(matched("(a*)?", "b"), [0, 0, -1, -1]);
     assert_eq!(matched("(?:a?)?b", "ab"), [0, 2]);
     // `(?:^)*` taken for `^`.
     assert_eq!(searched("(?:^)*b", "ab"), [1, 2]);
     assert_eq!(searched("^b", "ab"), NONE);
     // `(?:r*)*?` taken for `r*?`.
     assert_ne!(matched("(?:a*)*?(ab|b)", "aab"), matched("a*?(ab|b)", "aab"));
-    // One seen mark per row without the flag.
-    assert_eq!(matched("(?:a?b??)*", "ab"), [0, 2]);
-    // Groups kept across turns.
-    assert_eq!(matched("(?:(a)|b)*", "ab"), [0, 2, -1, -1]);
     // Queued threads dropped at Accept.
     assert_eq!(matched("ab|a", "ab"), [0, 2]);
     assert_eq!(matched("a*", "aaa"), [0, 3]);

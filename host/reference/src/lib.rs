@@ -1,8 +1,8 @@
 //! The reference: an independent, unproved implementation of outline 01,
 //! against which the proved code is compared on random patterns and texts.
 //!
-//! It was written from the outline, the readings of it that DESIGN section 4
-//! fixes, and ECMA-262 14th edition section 22.2 (main grammar, no flags); it
+//! It was written from the outline, the readings of it that docs/DECISIONS.md
+//! lists, and ECMA-262 14th edition section 22.2 (main grammar, no flags); it
 //! shares no line with the proved code. It aims to be read, not to be quick.
 //!
 //! | module | from | to |
@@ -16,12 +16,14 @@
 //! | [`matcher::standard`] | a tree, text | the standard's own matcher |
 //! | [`intake`] | a whole input | what the intake program writes |
 //! | [`generate`] | a seed | random patterns, texts and code |
+//! | [`lines`] | the program `lines`' files | its questions, put to what answers |
 #![forbid(unsafe_code)]
 #![deny(missing_docs)]
 
 pub mod compile;
 pub mod generate;
 pub mod intake;
+pub mod lines;
 pub mod matcher;
 pub mod node;
 pub mod reader;

@@ -3,7 +3,7 @@
 mod common;
 use common::*;
 use reference::rows::passes;
-use reference::steps::{run, Entry, Lent};
+use reference::steps::{run, Entry, Lent, TEXT_LIMIT};
 
 /// The words of a row.
 fn row(kind: u32, first: u32, second: u32) -> Vec<u32> {
@@ -96,7 +96,7 @@ fn unused_words_are_unread() {
 fn refusals_in_order() {
     let code = program("(a)").words();
     let (registers, workspace) = (4, 16 * 11 * 3);
-    let long = vec![b'b'; 1_048_577];
+    let long = vec![b'b'; TEXT_LIMIT + 1];
     let number = |code: &[u32], text: &[u8], start, registers, workspace| {
         let lent = Lent { registers, workspace };
         let refusal = run(code, text, start, lent, Entry::Search).err();
@@ -105,10 +105,10 @@ fn refusals_in_order() {
             refusal.number
         })
     };
-    assert_eq!(number(&code[1..], &long, 1_048_578, 0, 0), 20);
-    assert_eq!(number(&code, &long, 1_048_578, 0, 0), 21);
-    assert_eq!(number(&code, &long[1..], 1_048_577, 0, 0), 22);
-    assert_eq!(number(&code, &long[1..], 1_048_576, 0, 0), 23);
+    assert_eq!(number(&code[1..], &long, TEXT_LIMIT + 2, 0, 0), 20);
+    assert_eq!(number(&code, &long, TEXT_LIMIT + 2, 0, 0), 21);
+    assert_eq!(number(&code, &long[1..], TEXT_LIMIT + 1, 0, 0), 22);
+    assert_eq!(number(&code, &long[1..], TEXT_LIMIT, 0, 0), 23);
     assert_eq!(number(&code, b"", 0, registers - 1, 0), 23);
     assert_eq!(number(&code, b"", 0, registers, 0), 24);
     assert_eq!(number(&code, b"", 0, registers, workspace - 1), 24);
@@ -118,16 +118,17 @@ fn refusals_in_order() {
 
 #[test]
 fn the_longest_text() {
-    let mut text = vec![b'b'; 1_048_576];
-    text[1_048_575] = b'a';
+    let mut text = vec![b'b'; TEXT_LIMIT];
+    text[TEXT_LIMIT - 1] = b'a';
     let spans = |pattern: &str, start| {
         let program = program(pattern);
         let lent = Lent { registers: 32, workspace: 16 * 1_024 * 17 };
         run(&program.words(), &text, start, lent, Entry::Search).unwrap().spans
     };
-    assert_eq!(spans("(a)$", 0), Some(vec![1_048_575, 1_048_576, 1_048_575, 1_048_576]));
-    assert_eq!(spans("$", 1_048_576), Some(vec![1_048_576, 1_048_576]));
-    assert_eq!(spans("b*", 0), Some(vec![0, 1_048_575]));
+    let (start, end) = (TEXT_LIMIT as i32 - 1, TEXT_LIMIT as i32);
+    assert_eq!(spans("(a)$", 0), Some(vec![start, end, start, end]));
+    assert_eq!(spans("$", TEXT_LIMIT), Some(vec![end, end]));
+    assert_eq!(spans("b*", 0), Some(vec![0, start]));
 }
 
 #[test]

@@ -1,61 +1,81 @@
-//! Every line of "Lines we know the answer to", and "Errors that look right".
+//! The lines whose answers are known, the intake program's vectors, and "Errors that look right".
 
 mod common;
 use common::*;
+use reference::compile::{compile, compile_tidied};
 use reference::intake;
-use reference::steps::{run, Entry, Lent};
+use reference::lines::{lines, Answers, Run};
+use reference::refusal::Refusal;
+use reference::steps::{run, Lent};
 use reference::tidier::tidy;
+use std::fs;
+use std::path::{Path, PathBuf};
 
-#[test]
-fn lines_marked_p() {
-    assert_eq!(matched("a|ab", "ab", 0), [0, 1]);
-    assert_eq!(matched("(?:(a)|b)*", "ab", 0), [0, 2, -1, -1]);
-    assert_eq!(matched("a(b*)c", "abbcd", 0), [0, 4, 1, 3]);
-    assert_eq!(searched("(a*)b", "caabd", 0), [1, 4, 1, 3]);
-    assert_eq!(matched("(a|a*)", "aa", 0), [0, 1, 0, 1]);
-    assert_eq!(matched("(?:a?b??)*", "ab", 0), [0, 2]);
-    assert_eq!(matched("(a*)*", "b", 0), [0, 0, -1, -1]);
-    assert_eq!(matched("(a*)+", "b", 0), [0, 0, 0, 0]);
-    assert_eq!(matched("(a*)?", "b", 0), [0, 0, -1, -1]);
-    assert_eq!(matched("(?:a*)*?(ab|b)", "aab", 0), [0, 3, 2, 3]);
-    assert_eq!(matched("a*?(ab|b)", "aab", 0), [0, 3, 1, 3]);
+/// The reference, with room for everything.
+struct Reference;
+
+impl Answers for Reference {
+    fn compile(&self, pattern: &[u8], tidied: bool) -> Result<Vec<u32>, Refusal> {
+        let compile = if tidied { compile_tidied } else { compile };
+        compile(pattern, ROOM, ROOM).map(|program| program.words())
+    }
+
+    fn run(&self, code: &[u32], on: Run, registers: &mut [i32; 4]) -> Result<(bool, u64), Refusal> {
+        let lent = Lent { registers: 4, workspace: ROOM };
+        let answer = run(code, on.text, on.start, lent, on.entry)?;
+        let spans = answer.spans.clone().unwrap_or(vec![-1; 2 * (code[1] as usize + 1)]);
+        registers[..spans.len()].copy_from_slice(&spans);
+        Ok((answer.spans.is_some(), answer.count))
+    }
 }
 
 #[test]
-fn lines_with_counts() {
-    let empty = answer("", b"", 0, Entry::MatchAt);
-    assert_eq!((empty.spans, empty.count), (Some(vec![0, 0]), 3));
-    let empty = answer("", b"", 0, Entry::Search);
-    assert_eq!((empty.spans, empty.count), (Some(vec![0, 0]), 4));
-    let a_in_b = answer("a", b"b", 0, Entry::Search);
-    assert_eq!((a_in_b.spans, a_in_b.count), (None, 13));
-    assert_eq!(matched("[^]", "", 0), NONE);
-    assert_eq!(searched("[^]", "", 0), NONE);
+fn the_programs_questions() {
+    let lines = lines();
+    assert!(lines.len() > 60);
+    for line in lines {
+        assert_eq!(line.answered_by(&Reference), line.written);
+    }
+}
+
+/// The steps' spans are those of the two other matchers, which know no count.
+#[test]
+fn the_matchers_agree() {
+    for line in lines() {
+        let pattern = match line.pattern() {
+            Some(pattern) if compile(pattern.as_bytes(), ROOM, ROOM).is_ok() => pattern,
+            _ => continue,
+        };
+        matched(pattern, &line.text, 0);
+        searched(pattern, &line.text, 0);
+    }
+}
+
+/// The files of a folder beside this crate with an ending.
+fn files(folder: &str, ending: &str) -> Vec<PathBuf> {
+    let folder = Path::new(env!("CARGO_MANIFEST_DIR")).join("..").join(folder);
+    let entries = fs::read_dir(folder).expect("a folder of vectors");
+    let paths = entries.map(|entry| entry.expect("a file of vectors").path());
+    paths.filter(|path| path.extension().map_or(false, |other| other == ending)).collect()
+}
+
+fn contents(path: &Path) -> Vec<u8> {
+    fs::read(path).unwrap_or_else(|error| panic!("{}: {error}", path.display()))
 }
 
 #[test]
-fn lines_with_rows_and_refusals() {
-    assert_eq!(program("a{508}").n(), 1_024);
-    assert_eq!(refused(b"a{509}"), (15, 0));
-    assert_eq!(program("a{2,4}").n(), 22);
-    assert_eq!(refused(b"a**"), (6, 2));
-    assert_eq!(refused(b"a{2000,1}"), (8, 1));
-    let code = program("a").words();
-    let lent = Lent { registers: 2, workspace: 16 * 9 * 2 };
-    let from = |start| run(&code, b"a", start, lent, Entry::Search);
-    assert_eq!(from(1).map(|answer| answer.spans), Ok(None));
-    assert_eq!(from(2).map_err(|refusal| (refusal.number, refusal.place)), Err((22, 0)));
-}
-
-#[test]
-fn the_program() {
-    assert_eq!(intake::output(b"a|ab\nab\nc\n"), "rows 13 groups 0\n0 1\nnone\n");
-    assert_eq!(intake::output(b"a|ab\nab\nc"), "rows 13 groups 0\n0 1\nnone\n");
-    assert_eq!(intake::output(b""), "");
-    assert_eq!(intake::output(b"\n"), "rows 8 groups 0\n");
-    assert_eq!(intake::output(b"\n\n"), "rows 8 groups 0\n0 0\n");
-    assert_eq!(intake::output(b"(a)|(b)\nxb\n"), "rows 16 groups 2\n1 2 -1 -1 1 2\n");
-    assert_eq!(intake::output(b"a**\nab\n"), "refused 6 at 2\n");
+fn the_intakes_vectors() {
+    let storm = contents(&Path::new(env!("CARGO_MANIFEST_DIR")).join("../sample/storm.txt"));
+    let vectors = files("intake-vectors", "in").into_iter().map(|path| (contents(&path), path));
+    let patterns = files("sample", "pattern").into_iter();
+    let samples = patterns.map(|path| ([contents(&path), storm.clone()].concat(), path));
+    let mut count = 0;
+    for (input, path) in vectors.chain(samples) {
+        let expected = contents(&path.with_extension("out"));
+        assert_eq!(intake::output(&input).as_bytes(), expected, "{}", path.display());
+        count += 1;
+    }
+    assert!(count > 40);
 }
 
 #[test]
@@ -83,18 +103,13 @@ fn the_programs_buffers() {
 #[test]
 fn errors_that_look_right() {
     // `r?` rewritten as `r` or empty.
-    assert_eq!(matched("(a*)?", "b", 0), [0, 0, -1, -1]);
-    assert_eq!(matched("(?:(a*)|)", "b", 0), [0, 0, 0, 0]);
+    assert_ne!(matched("(a*)?", "b", 0), matched("(?:(a*)|)", "b", 0));
     // `(?:^)*` taken for `^`.
     assert_eq!(matched("(?:^)*a", "ba", 1), [1, 2]);
     assert_eq!(matched("^a", "ba", 1), NONE);
     assert_eq!(tidy(tree("(?:^)*")), tree(""));
     // `(?:r*)*?` taken for `r*?`.
     assert_eq!(tidy(tree("(?:a*)*?")), tree("(?:a*)*?"));
-    // One seen mark per row without the flag.
-    assert_eq!(matched("(?:a?b??)*", "ab", 0), [0, 2]);
-    // Groups kept across turns.
-    assert_eq!(matched("(?:(a)|b)*", "ab", 0), [0, 2, -1, -1]);
     // Queued threads dropped at Accept.
     assert_eq!(matched("ab|a", "ab", 0), [0, 2]);
     assert_eq!(matched("a*", "aaa", 0), [0, 3]);

@@ -1,29 +1,34 @@
 -- What is kept of a last line is a line, unless it is empty.
-use mathlib.Core.Path.{sym}
-use native.Mathlib.Omega.{arith}
+use mathlib.Core.Path.{sym, _∙_}
 use borrow.Author.Needs.{needs}
-use lib.Seq.{length-take-le}
-use Rattle.intake_feeding.specs.Laws.{ends-empty, ends-line}
+use Rattle.intake_feeding.specs.Laws.{last-none, last-some}
 use Rattle.intake_feeding.proofs.finish.Statement.{statement}
 use Rattle.intake_feeding.proofs.finish.Tie as tie
 
 empty : tie.Need-returns
 empty c =
-    let start = c .before .before in
-    ends-empty (start .args .phase) (start .args .line .now) (start .args .code .now) (c .if1 .taken)
-
-line-count : tie.Need-slice-aggregate-end-line
-line-count c = sym (length-take-le _ _ (search needs))
+    let at-feed = c .before .before in
+    let at-if1 = at-feed .before .before .before .before .before .before .before in
+    let at-clamp = at-if1 .before in
+    let start = at-clamp .before .before .before .before in
+    let a = start .args in
+    let none = last-none (a .phase) (a .kept) (a .line .now) (a .code .now)
+    (sym (at-clamp .clamp .ensures) ∙ at-if1 .if1 .taken) in
+    (rw none (at-feed .feed .ensures .0), at-feed .feed .ensures .1)
 
 line : tie.Need-returns-2
 line c =
-    let at-end-line = c .before .before in
-    let at-bytes = at-end-line .before .before .before .before .before .before in
-    let at-if1 = at-bytes .before in
-    let start = at-if1 .before .before in
+    let at-feed = c .before .before in
+    let at-if1 = at-feed .before .before .before .before .before .before .before in
+    let at-clamp = at-if1 .before in
+    let start = at-clamp .before .before .before .before in
     let a = start .args in
-    ends-line (a .phase) (a .line .now) (a .code .now) (at-if1 .if1 .left) (omega (arith, at-bytes .bytes, start .pre))
-    (at-end-line .end-line .ensures)
+    let some = last-some (a .phase) (a .kept) (a .line .now) (a .code .now)
+    (λ e. at-if1 .if1 .left (at-clamp .clamp .ensures ∙ e)) in
+    (rw some (at-feed .feed2 .ensures .0), at-feed .feed2 .ensures .1)
 
 pub finish-spec : {M : Type 1} → statement M
-finish-spec = tie.close (tie.spec empty line-count (λ c κs. search needs) (λ c. search needs) line)
+finish-spec =
+    tie.close
+    (tie.spec (λ c κs. search needs) (λ c. search needs) (λ c κs. search needs) (λ c. search needs) empty (λ c. search needs)
+    (λ c κs. search needs) (λ c. search needs) line)

@@ -1,0 +1,155 @@
+//! The lines whose answers are known: the files of the program `lines`, which asks the proved calls
+//! in memory that it lends them. The tests put the same questions to whatever else answers.
+
+use crate::refusal::Refusal;
+use crate::rows::ROW_WORDS;
+use crate::steps::Entry;
+use std::fs;
+use std::path::Path;
+
+/// A question, its text, and the line that the program writes for it.
+#[derive(Clone, Debug)]
+pub struct Line {
+    /// What is asked, as in the file `stdin`.
+    pub question: String,
+    /// The text.
+    pub text: String,
+    /// Question, text and answer, as in the file `stdout`.
+    pub written: String,
+}
+
+/// What the questions are put to.
+pub trait Answers {
+    /// The code words of a pattern, plain or tidied.
+    fn compile(&self, pattern: &[u8], tidied: bool) -> Result<Vec<u32>, Refusal>;
+
+    /// A run with four registers, found or none and the count of rows executed.
+    fn run(&self, code: &[u32], run: Run, registers: &mut [i32; 4])
+        -> Result<(bool, u64), Refusal>;
+}
+
+/// What a run is lent besides code and registers.
+#[derive(Clone, Copy, Debug)]
+pub struct Run<'a> {
+    /// Searched, or matched at the start.
+    pub entry: Entry,
+    /// The text.
+    pub text: &'a [u8],
+    /// The start.
+    pub start: usize,
+}
+
+/// The program's questions, in order, each with its line.
+pub fn lines() -> Vec<Line> {
+    let folder = Path::new(env!("CARGO_MANIFEST_DIR")).join("../../crates/lines");
+    let file = |name: &str| {
+        fs::read_to_string(folder.join(name)).unwrap_or_else(|error| panic!("{name}: {error}"))
+    };
+    let (asked, written) = (file("stdin"), file("stdout"));
+    let asked: Vec<&str> = asked.lines().collect();
+    let line = |(pair, written): (&[&str], &str)| Line {
+        question: pair[0].to_string(),
+        text: pair[1].to_string(),
+        written: written.to_string(),
+    };
+    asked.chunks_exact(2).zip(written.lines()).map(line).collect()
+}
+
+impl Line {
+    /// The word that says what is asked.
+    fn asks(&self) -> &str {
+        self.question.split(' ').next().unwrap_or_default()
+    }
+
+    /// What stands behind that word, and behind the start of a run.
+    fn behind(&self, bytes: usize) -> &str {
+        self.question.get(self.asks().len() + bytes..).unwrap_or_default()
+    }
+
+    /// The pattern that is asked about; nothing if rows are.
+    pub fn pattern(&self) -> Option<&str> {
+        match self.asks() {
+            "match" | "search" | "find" => Some(self.behind(3)),
+            "compile" | "tidied" => Some(self.behind(1)),
+            _ => None,
+        }
+    }
+
+    /// The line that is written where this answers.
+    pub fn answered_by(&self, answers: &dyn Answers) -> String {
+        let pattern = self.pattern().unwrap_or_default().as_bytes();
+        let plain = || answers.compile(pattern, false);
+        let on = format!("{} on \"{}\"", self.question, self.text);
+        match self.asks() {
+            "compile" => format!("{}: {}", self.question, size(plain())),
+            "tidied" => format!("{}: {}", self.question, size(answers.compile(pattern, true))),
+            "match" => format!("{on}: {}", self.run(answers, plain(), Entry::MatchAt)),
+            "search" | "find" => format!("{on}: {}", self.run(answers, plain(), Entry::Search)),
+            "rows" => format!("{on}: {}", self.run(answers, Ok(self.rows(0)), Entry::MatchAt)),
+            "unused" => format!("{on}: {}", self.run(answers, Ok(self.rows(1)), Entry::MatchAt)),
+            _ => panic!("no question: {}", self.question),
+        }
+    }
+
+    /// The answer of a run and the registers, which all held 7.
+    fn run(&self, answers: &dyn Answers, code: Result<Vec<u32>, Refusal>, entry: Entry) -> String {
+        let start = self.behind(1).get(..1).and_then(|digit| digit.parse().ok()).unwrap_or(0);
+        let start = if self.pattern().is_some() { start } else { 0 };
+        let mut registers = [7; 4];
+        let run = Run { entry, text: self.text.as_bytes(), start };
+        let answer = match code.and_then(|code| answers.run(&code, run, &mut registers)) {
+            Ok((true, count)) => format!("found, rows {count}"),
+            Ok((false, count)) => format!("none, rows {count}"),
+            Err(refusal) if self.asks() == "find" => refused(refusal),
+            Err(refusal) => format!("refused {}", refusal.number),
+        };
+        let [a, b, c, d] = registers;
+        format!("{answer}: {a} {b} {c} {d}")
+    }
+
+    /// Nine rows, all Accept but those that are given, with a number in the words that are not used.
+    fn rows(&self, unused: u32) -> Vec<u32> {
+        let mut code = vec![unused; ROW_WORDS * 10];
+        code[..2].copy_from_slice(&[9, 0]);
+        for row in 1..10 {
+            code[ROW_WORDS * row] = kind("Accept");
+        }
+        for row in self.behind(0).split_terminator(';') {
+            let words: Vec<&str> = row.split_whitespace().collect();
+            let at = ROW_WORDS * (number(words[0]) as usize + 1);
+            let row = [kind(words[1]), number(words[2]), number(words[3])];
+            code[at..at + 3].copy_from_slice(&row);
+            if words[1] == "Consume" {
+                // The bytes 60 to 7F hex.
+                code[at + 7] = u32::MAX;
+            }
+        }
+        code
+    }
+}
+
+fn number(digits: &str) -> u32 {
+    digits.parse().unwrap_or_else(|_| panic!("no number: {digits}"))
+}
+
+/// The number of a row's kind.
+fn kind(name: &str) -> u32 {
+    let kinds =
+        ["Accept", "Consume", "Jump", "Fork", "Open", "Close", "Reset", "Begin", "End", "Assert"];
+    match kinds.iter().position(|&kind| kind == name) {
+        Some(place) => place as u32 + 1,
+        None => panic!("no kind of row: {name}"),
+    }
+}
+
+fn refused(refusal: Refusal) -> String {
+    format!("refused {} at {}", refusal.number, refusal.place)
+}
+
+/// What compiling answers.
+fn size(code: Result<Vec<u32>, Refusal>) -> String {
+    match code {
+        Ok(code) => format!("rows {}", code[0]),
+        Err(refusal) => refused(refusal),
+    }
+}
