@@ -41,6 +41,10 @@ module _ {κ} {A : Type 0} (P : A → Type κ) where
   ok-map Q f g none h = tt
   ok-map Q f g (some z) h = g z h
 
+  pub ok-imp : (Q : A → Type κ) → ((a : A) → Q a → P a) → (o : Option A) → Ok Q o → Ok P o
+  ok-imp Q g none h = tt
+  ok-imp Q g (some a) h = g a h
+
   pub ok-two : (f : List Node → Option A) (l : List Node) → (2 ≤ length l → Ok P (f l)) → Ok P (two f l)
   ok-two f [] h = tt
   ok-two f (r ∷ []) h = tt
