@@ -31,7 +31,8 @@ part-positive (inMany n e lazy a) r p = part-positive a r p
 alike-there : (l : Law) (r q : Node) → l .words r q → (a : Around) → Positive (groups (fill a r)) → Alike (fill a r) (fill a q)
 alike-there l r q h a p = anywhere a (l .holds r q h (part-positive a r p))
 
-pub laws-alike : All (λ W. (r q : Node) → W r q → (a : Around) → Positive (groups (fill a r)) → Alike (fill a r) (fill a q)) becomes
+pub laws-alike : All (λ W. (r q : Node) → W r q → (a : Around) → Positive (groups (fill a r)) → Alike (fill a r) (fill a q))
+    becomes
 laws-alike = each-words _ alike-there
 
 -- and there the standard's algorithm matches the same and finds the same with both, with every group, from any start.

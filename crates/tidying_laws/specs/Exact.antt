@@ -1,7 +1,7 @@
 -- A law fits exactly where its words apply, and what it makes is what they say.
 use mathlib.Core.Path.{_≡_, refl, sym, ap, subst, _∙_}
 use mathlib.Core.Logic.{_⊎_, inl, inr}
-use mathlib.Core.Bool.{Bool, true, false, cond, _&&_, _||_, Bool·beq, or-true, false≢true}
+use mathlib.Core.Bool.{Bool, true, false, cond, _&&_, _||_, Bool·beq, false≢true}
 use mathlib.Core.Option.{Option, none, some, Option·map, IsSome}
 use mathlib.Core.List.{List, [], _∷_, _++_, map, append-assoc}
 use Prim.Native.Nat.{ℕ, zero, suc, _≤_}
@@ -12,25 +12,25 @@ use Rattle.meaning.specs.Tests.{and-true, beq-eq}
 use Rattle.meaning.specs.Node.{Node, Node.empty, Node.bset, Node.assert, Node.seq, Node.many}
 use Rattle.meaning.specs.Results.{orElse, concatMap}
 use Rattle.meaning.specs.All.{All}
-use Rattle.meaning.specs.Flat.{Kind, Kind.sequence, Kind.alternation, parts, join, items, alternatives, ofItems, ofAlternatives}
+use Rattle.meaning.specs.Flat.{Kind.sequence, Kind.alternation, items, alternatives, ofItems, ofAlternatives}
 use Rattle.tidying_laws.specs.Choices.{any}
 use Rattle.tidying_laws.specs.Groups.{groupFree}
 use Rattle.tidying_laws.specs.Void.{void}
 use Rattle.tidying_laws.specs.Quantified.{absorbed}
 use Rattle.tidying_laws.specs.Equal.{same, same-eq}
-use Rattle.tidying_laws.specs.Laws.{when, onParts, isEmpty, filled, counts, isVoid, onAlternatives, distinct, possible, impossible}
-use Rattle.tidying_laws.specs.Laws.{firstSet, run, glues, shared, sharedAt, share}
+use Rattle.tidying_laws.specs.Laws.{when, onAlternatives, counts, isEmpty, filled, isVoid, distinct}
+use Rattle.tidying_laws.specs.Laws.{possible, impossible, firstSet, run, glues, shared, sharedAt, share}
 use Rattle.tidying_laws.specs.Laws.{t1, t2, t3, t4, t5, t6, t7, t8, t9}
 use Rattle.tidying_laws.specs.Kept.{Ok, ok-test, ok-when, ok-else, ok-map, ok-imp, ok-two}
 use Rattle.tidying_laws.specs.Alternatives.{void-set}
 use Rattle.tidying_laws.specs.Items.{filled-others}
 use Rattle.tidying_laws.specs.Quantifiers.{counts-eq, tests, on-many, on-assert}
 use Rattle.tidying_laws.specs.Runs.{Longest, run-longest, glues-join}
-use Rattle.tidying_laws.specs.Words.{OnParts, EmptyItem, Times, OnceOrNever, ManyEmpty, ManyAssertion, LoopOfLoops}
-use Rattle.tidying_laws.specs.Words.{EqualAlternative, VoidIn, VoidAlternative, VoidItem, EmptySet, OptionOfOption}
-use Rattle.tidying_laws.specs.Words.{Leads, rest, Pair, SameFirst}
+use Rattle.tidying_laws.specs.Words.{OnParts, EmptyItem, Times, OnceOrNever, ManyEmpty, EmptyOrItself, ManyAssertion}
+use Rattle.tidying_laws.specs.Words.{LoopOfLoops, EqualAlternative, VoidAlternative, EmptySet, OptionOfOption}
+use Rattle.tidying_laws.specs.Words.{Leads, rest, Adjacent, SameFirst}
 use Rattle.tidying_laws.specs.Fits.{t1-fits, t2-fits, t3-fits, t4-fits, t5-fits, t6-fits, t7-fits, t8-fits, t9-fits}
-use Rattle.tidying_laws.specs.Fits.{pair-shared, share-fits}
+use Rattle.tidying_laws.specs.Fits.{adjacent-shared, share-fits}
 
 -- A law fits wherever its words make something of a part, and what it makes of one is what the words make of it.
 pub record Exact (f : Node → Option Node) (W : Node → Node → Type 0) : Type 0 where
@@ -96,7 +96,7 @@ t4-exact = record {
       on-assert (λ r. ManyAssertion (many n e lazy r)) _ (λ a. (n, e, lazy, a, refl, by n a)));
 }
   where
-    by : (n a : ℕ) → let q : Node = cond (eqb n 0) empty (assert a) in ((n ≡ 0) × (q ≡ empty)) ⊎ ((1 ≤ n) × (q ≡ assert a))
+    by : (n a : ℕ) → EmptyOrItself n a (cond (eqb n 0) empty (assert a))
     by zero a = inl (refl, refl)
     by (suc n) a = inr (omega arith, rw (eqb·suc-zero n))
 
@@ -186,7 +186,7 @@ run-shared s l [] m h = tt
 run-shared s l (p ∷ []) m h = tt
 run-shared s l (p ∷ q ∷ ps) m h = from (h .front) (h .split) (h .begin) (h .left)
   where
-    alone : (x : Node) → Pair (x ∷ []) → ⊥
+    alone : (x : Node) → Adjacent (x ∷ []) → ⊥
     alone x t = let (a, b, p, q, s, e, g, i) = t in omega (arith, ap length e, length-append a (p ∷ q ∷ b))
 
     from : (front : List Node) → l ≡ front ++ m → All (Leads s) front → p ∷ q ∷ ps ≡ map rest front
@@ -197,17 +197,17 @@ run-shared s l (p ∷ q ∷ ps) m h = from (h .front) (h .split) (h .begin) (h .
         let g = glues-join p (q ∷ ps) ∙ ap (λ l. ofAlternatives (concatMap alternatives l)) f in
         ([], m, x, y, front, s, e, b, alone x, h .stops, ap (λ r. seq (bset s) r ∷ m) g)
 
--- and the leftmost: where there is nothing to share at the front, and no pair up to p behind it, there is none up to p.
-no-pair : (r : Node) (a b : List Node) (p : Node) → sharedAt (firstSet (items r)) (r ∷ (a ++ p ∷ b)) ≡ none
-    → (Pair (a ++ p ∷ []) → ⊥) → Pair (r ∷ (a ++ p ∷ [])) → ⊥
-no-pair r a b p i h t = let (c, d, x, y, s, e, f, g) = t in by c d x y s e f g
+-- and the leftmost: where there is nothing to share at the front, and no such two up to p behind it, there is none up to p.
+none-adjacent : (r : Node) (a b : List Node) (p : Node) → sharedAt (firstSet (items r)) (r ∷ (a ++ p ∷ b)) ≡ none
+    → (Adjacent (a ++ p ∷ []) → ⊥) → Adjacent (r ∷ (a ++ p ∷ [])) → ⊥
+none-adjacent r a b p i h t = let (c, d, x, y, s, e, f, g) = t in by c d x y s e f g
   where
     by : (c d : List Node) (x y : Node) (s : List ℕ) → r ∷ (a ++ p ∷ []) ≡ c ++ x ∷ y ∷ d → Leads s x → Leads s y → ⊥
     by [] d x y s e f g =
         let j : a ++ p ∷ [] ≡ y ∷ d = cc in
         let k : a ++ p ∷ b ≡ y ∷ (d ++ b) = sym (append-assoc a (p ∷ []) b) ∙ ap (λ l. l ++ b) j in
         let u : r ≡ x = cc in
-        subst IsSome (rw k at i) (pair-shared r y (d ++ b) s (rw u f) g)
+        subst IsSome (rw k at i) (adjacent-shared r y (d ++ b) s (rw u f) g)
     by (z ∷ c) d x y s e f g = h (c, d, x, y, s, cc, f, g)
 
 share-finds : (l : List Node) → Ok (SameFirst l) (share l)
@@ -223,7 +223,7 @@ share-finds (r ∷ l) = by (sharedAt (firstSet (items r)) (r ∷ l)) refl (at (f
         → Ok (SameFirst l) (share l) → Ok (SameFirst (r ∷ l)) (orElse o (Option·map (λ m. r ∷ m) (share l)))
     by none i h g = ok-map (SameFirst (r ∷ l)) (SameFirst l) (λ m. r ∷ m) (λ m t.
         let (a, b, p, q, run, s, e, leads, left, stop, f) = t in
-        let none-up-to : Pair (r ∷ (a ++ p ∷ [])) → ⊥ = no-pair r a (q ∷ (run ++ b)) p (rw e at i) left in
+        let none-up-to : Adjacent (r ∷ (a ++ p ∷ [])) → ⊥ = none-adjacent r a (q ∷ (run ++ b)) p (rw e at i) left in
         (r ∷ a, b, p, q, run, s, ap (λ l. r ∷ l) e, leads, none-up-to, stop, ap (λ m. r ∷ m) f)) (share l) g
     by (some m) i h g = h
 
@@ -231,8 +231,8 @@ pub t8-exact : Exact t8 (OnParts alternation SameFirst)
 t8-exact = record { fits = t8-fits; only = on-list SameFirst share share-finds }
 
 -- So T8 applies wherever two adjacent alternatives begin with the same set.
-pub pair-applies : (r : Node) → Pair (alternatives r) → (q : Node) × OnParts alternation SameFirst r q
-pair-applies r h = let (a, b, p, q, s, e, g, i) = h in let l : List Node = alternatives r in
+pub adjacent-applies : (r : Node) → Adjacent (alternatives r) → (q : Node) × OnParts alternation SameFirst r q
+adjacent-applies r h = let (a, b, p, q, s, e, g, i) = h in let l : List Node = alternatives r in
     from (share l) (share-finds l) (rw e (share-fits a b p q s g i))
     (omega (arith, ap length e, length-append a (p ∷ q ∷ b)))
   where

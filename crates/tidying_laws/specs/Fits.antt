@@ -20,7 +20,8 @@ use Rattle.tidying_laws.specs.Laws.{firstSet, run, sharedAt, share}
 use Rattle.tidying_laws.specs.Laws.{t1, t2, t3, t4, t5, t6, t7, t8, t9}
 use Rattle.tidying_laws.specs.Lists.{any-has}
 use Rattle.tidying_laws.specs.Words.{OnParts, EmptyItem, OnceOrNever, ManyEmpty, ManyAssertion, LoopOfLoops}
-use Rattle.tidying_laws.specs.Words.{EqualAlternative, VoidAlternative, VoidItem, EmptySet, Leads, SameFirst, OptionOfOption}
+use Rattle.tidying_laws.specs.Words.{EqualAlternative, VoidAlternative, VoidItem, EmptySet, Leads, SameFirst}
+use Rattle.tidying_laws.specs.Words.{OptionOfOption}
 
 module _ {A : Type 0} where
   some-cond : (b : Bool) (o p : Option A) → IsSome o → IsSome p → IsSome (cond b o p)
@@ -107,15 +108,15 @@ t7-fits r q (inr h) = some-else (onAlternatives possible r) (impossible r)
     rw (h .0, e, any-has isVoid a b (bset s) n) tt) r q (h .1))
 
 -- T8 finds something to share where two adjacent alternatives begin with the same set, first of all at the first two.
-pub pair-shared : (p q : Node) (b : List Node) (s : List ℕ) → Leads s p → Leads s q
+pub adjacent-shared : (p q : Node) (b : List Node) (s : List ℕ) → Leads s p → Leads s q
     → IsSome (sharedAt (firstSet (items p)) (p ∷ q ∷ b))
 unfolding run
-pair-shared p q b s h g = rw (h .1, h .1, g .1, same-refl (bset s)) tt
+adjacent-shared p q b s h g = rw (h .1, h .1, g .1, same-refl (bset s)) tt
 
 pub share-fits : (a b : List Node) (p q : Node) (s : List ℕ) → Leads s p → Leads s q → IsSome (share (a ++ p ∷ q ∷ b))
 unfolding share
 share-fits [] b p q s h g = let t : List Node = p ∷ q ∷ b in
-    some-first (sharedAt (firstSet (items p)) t) (Option·map (λ m. p ∷ m) (share (q ∷ b))) (pair-shared p q b s h g)
+    some-first (sharedAt (firstSet (items p)) t) (Option·map (λ m. p ∷ m) (share (q ∷ b))) (adjacent-shared p q b s h g)
 share-fits (x ∷ a) b p q s h g = let t : List Node = a ++ p ∷ q ∷ b in
     some-else (sharedAt (firstSet (items x)) (x ∷ t)) (Option·map (λ m. x ∷ m) (share t))
     (some-map (λ m. x ∷ m) (share t) (share-fits a b p q s h g))

@@ -1,19 +1,19 @@
 -- Each law holds in the outline's words: what a part becomes is alike.
 use mathlib.Core.Path.{_≡_, sym, subst}
-use mathlib.Core.Logic.{_⊎_, inl, inr}
+use mathlib.Core.Logic.{inl, inr}
 use mathlib.Core.Bool.{Bool, true}
 use mathlib.Core.Option.{Option}
 use mathlib.Core.List.{List}
-use Prim.Native.Nat.{ℕ, zero, suc, _≤_}
+use Prim.Native.Nat.{ℕ, zero, suc}
 use native.Mathlib.Omega.{arith}
-use Rattle.meaning.specs.Node.{Node, Node.empty, Node.assert, Node.many}
+use Rattle.meaning.specs.Node.{Node, Node.assert, Node.many}
 use Rattle.meaning.specs.Flat.{Kind, Kind.sequence, Kind.alternation, parts, join, items, ofItems, join-parts, adds-parts}
 use Rattle.tidying_laws.specs.Groups.{groups, Positive, groupFree}
 use Rattle.tidying_laws.specs.Alike.{Alike}
 use Rattle.tidying_laws.specs.Measures.{groups-adds}
 use Rattle.tidying_laws.specs.Quantified.{T2-one, T2-none, T3, T4-none, T4-some, T5, T9}
-use Rattle.tidying_laws.specs.Words.{OnParts, EmptyItem, OnceOrNever, ManyEmpty, ManyAssertion, LoopOfLoops}
-use Rattle.tidying_laws.specs.Words.{EqualAlternative, EmptySet, SameFirst, OptionOfOption}
+use Rattle.tidying_laws.specs.Words.{OnParts, EmptyItem, OnceOrNever, ManyEmpty, EmptyOrItself, ManyAssertion}
+use Rattle.tidying_laws.specs.Words.{LoopOfLoops, EqualAlternative, EmptySet, SameFirst, OptionOfOption}
 use Rattle.tidying_laws.specs.Lists.{AlikeOn, T1, T6, T7, T7-sequence, T8}
 
 -- The words of a law hold.
@@ -38,8 +38,7 @@ t3-holds r q h p = rw (h .3, h .4) (T3 (h .0) (h .1) (h .2))
 pub t4-holds : Holds ManyAssertion
 t4-holds r q h p = let (n, e, lazy, a, f, c) = h in rw f (by n e lazy a c)
   where
-    by : (n : ℕ) (e : Option ℕ) (lazy : Bool) (a : ℕ) → ((n ≡ 0) × (q ≡ empty)) ⊎ ((1 ≤ n) × (q ≡ assert a))
-        → Alike (many n e lazy (assert a)) q
+    by : (n : ℕ) (e : Option ℕ) (lazy : Bool) (a : ℕ) → EmptyOrItself n a q → Alike (many n e lazy (assert a)) q
     by n e lazy a (inl h) = rw (h .0, h .1) (T4-none e lazy a)
     by zero e lazy a (inr h) = absurd (omega (arith, h .0))
     by (suc n) e lazy a (inr h) = rw (h .1) (T4-some n e lazy a)

@@ -74,7 +74,7 @@ others-filled (r ∷ l) m (inl o) = let h : Filled l m = others-filled l m (o .1
   less = omega (arith, h .less);
   light = omega (arith, h .light);
 })
-others-filled (r ∷ l) m (inr o) = let k : List Node = o .0 in let h : Filled l k = others-filled l k (o .2) in rw (o .3) (record {
+others-filled (r ∷ l) m (inr o) = let (k, n, g, e) = o in let h : Filled l k = others-filled l k g in rw e (record {
   like = λ w fair B c x hx.
       first-cong (Reach w x) (runs w c l) (runs w c k) (results w r x) (reach w r x hx)
       (λ y g. h .like w fair B c y (g .stop));

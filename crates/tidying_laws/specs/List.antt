@@ -1,5 +1,5 @@
--- The tidier's laws as one list, in the order of their numbers: the one place that names them all. An entry carries its proofs, so
--- that a law more is an entry more; what the tidier applies and what its promises say is read off the list, by `laws` and `words`.
+-- The tidier's laws as one list, in the order of their numbers: the one place that names them all. An entry carries its proofs,
+-- so that a law more is an entry more; what the tidier applies and what its promises say is read off the list.
 use mathlib.Core.Option.{Option}
 use mathlib.Core.List.{List, [], _∷_, map}
 use Rattle.meaning.specs.Node.{Node}
@@ -18,8 +18,7 @@ use Rattle.tidying_laws.specs.Holds.{t8-holds, t9-holds}
 use Rattle.tidying_laws.specs.Exact.{Exact, t1-exact, t2-exact, t3-exact, t4-exact, t5-exact, t6-exact, t7-exact}
 use Rattle.tidying_laws.specs.Exact.{t8-exact, t9-exact}
 
--- A law: what it makes of a part, the outline's words for what a part becomes, that it makes exactly that, that the words hold, and
--- what it keeps.
+-- A law: what it makes of a part, the outline's words for it, that it makes exactly that, that the words hold, and what it keeps.
 pub record Law : Type 1 where
   pub makes : Node → Option Node
   pub words : Node → Node → Type 0
@@ -27,7 +26,8 @@ pub record Law : Type 1 where
   pub holds : Holds words
   pub kept : (r : Node) → Ok (Kept r) (makes r)
 
-abbrev pub law : (f : Node → Option Node) (W : Node → Node → Type 0) → Exact f W → Holds W → ((r : Node) → Ok (Kept r) (f r)) → Law
+abbrev pub law : (f : Node → Option Node) (W : Node → Node → Type 0) → Exact f W → Holds W
+    → ((r : Node) → Ok (Kept r) (f r)) → Law
 law f W e h k = record { makes = f; words = W; exact = e; holds = h; kept = k }
 
 unfoldable pub list : List Law

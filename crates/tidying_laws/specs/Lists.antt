@@ -2,10 +2,10 @@
 use mathlib.Core.Path.{_≡_, sym, subst, _∙_}
 use mathlib.Core.Bool.{Bool, true, or-true}
 use mathlib.Core.List.{List, [], _∷_, _++_, map}
-use Prim.Native.Nat.{ℕ, _≤_}
+use Prim.Native.Nat.{_≤_}
 use native.Mathlib.Omega.{arith}
-use lib.ListN.{length, length-append}
-use Rattle.meaning.specs.Node.{Node, Node.bset, Node.seq}
+use lib.ListN.{length}
+use Rattle.meaning.specs.Node.{Node, Node.bset}
 use Rattle.tidying_laws.specs.Choices.{any}
 use Rattle.tidying_laws.specs.Groups.{groups, Positive, groupFree, free-groups, free-positive}
 use Rattle.tidying_laws.specs.Alike.{Alike, alike}

@@ -1,5 +1,5 @@
--- The outline's words for each law: what a part becomes to which it applies. The laws that speak of items and of alternatives are
--- said of lists of them. Definitions only.
+-- The outline's words for each law: what a part becomes, r the part and q what it becomes. Where a law speaks of items or of
+-- alternatives they are lists, l and m. Definitions only.
 use mathlib.Core.Path.{_≡_}
 use mathlib.Core.Logic.{_⊎_}
 use mathlib.Core.Bool.{Bool, true}
@@ -15,22 +15,24 @@ use Rattle.tidying_laws.specs.Groups.{groupFree}
 use Rattle.tidying_laws.specs.Void.{noBytes, void}
 use Rattle.tidying_laws.specs.Quantified.{absorbed}
 
--- The items of a sequence, or the alternatives of an alternation, two or more, become those of a list.
+-- A law on the items of a sequence, or on the alternatives of an alternation, of which there are two or more.
 abbrev pub OnParts : Kind → (List Node → List Node → Type 0) → Node → Node → Type 0
 OnParts k L r q = (m : List Node) × (2 ≤ length (parts k r)) × L (parts k r) m × (q ≡ join k m)
 
--- T1: empty items leave a sequence. What is left are the other items, in order.
+-- What is left of a list without its empty items: the other items, in order.
 abbrev pub Others : List Node → List Node → Type 0
 Others [] m = m ≡ []
 Others (r ∷ l) m = ((r ≡ empty) × Others l m) ⊎ ((k : List Node) × (r ≡ empty → ⊥) × Others l k × (m ≡ r ∷ k))
 
+-- T1: empty items leave a sequence.
 abbrev pub EmptyItem : List Node → List Node → Type 0
 EmptyItem l m = (a : List Node) × (b : List Node) × (l ≡ a ++ empty ∷ b) × Others l m
 
--- T2: p{1} is p; p{0} is empty.
+-- r is p{n}, and p has no group.
 abbrev pub Times : ℕ → Node → Node → Type 0
 Times n r p = (lazy : Bool) × (r ≡ many n (some 0) lazy p) × (groupFree p ≡ true)
 
+-- T2: p{1} is p; p{0} is empty.
 abbrev pub OnceOrNever : Node → Node → Type 0
 OnceOrNever r q = Times 1 r q ⊎ ((p : Node) × Times 0 r p × (q ≡ empty))
 
@@ -39,9 +41,11 @@ abbrev pub ManyEmpty : Node → Node → Type 0
 ManyEmpty r q = (n : ℕ) × (e : Option ℕ) × (lazy : Bool) × (r ≡ many n e lazy empty) × (q ≡ empty)
 
 -- T4: an assertion with min 0 is empty, with min 1 or more is itself.
+abbrev pub EmptyOrItself : ℕ → ℕ → Node → Type 0
+EmptyOrItself n a q = ((n ≡ 0) × (q ≡ empty)) ⊎ ((1 ≤ n) × (q ≡ assert a))
+
 abbrev pub ManyAssertion : Node → Node → Type 0
-ManyAssertion r q = (n : ℕ) × (e : Option ℕ) × (lazy : Bool) × (a : ℕ) × (r ≡ many n e lazy (assert a))
-    × (((n ≡ 0) × (q ≡ empty)) ⊎ ((1 ≤ n) × (q ≡ assert a)))
+ManyAssertion r q = (n : ℕ) × (e : Option ℕ) × (lazy : Bool) × (a : ℕ) × (r ≡ many n e lazy (assert a)) × EmptyOrItself n a q
 
 -- T5: (?:p*)* and (?:p*?)* are p*; (?:p*?)*? is p*?.
 abbrev pub LoopOfLoops : Node → Node → Type 0
@@ -53,41 +57,42 @@ abbrev pub EqualAlternative : List Node → List Node → Type 0
 EqualAlternative l m = (a : List Node) × (b : List Node) × (c : List Node) × (p : Node)
     × (l ≡ a ++ p ∷ (b ++ p ∷ c)) × (groupFree p ≡ true) × (m ≡ a ++ p ∷ (b ++ c))
 
--- T7: an empty set goes from an alternation with another alternative;
+-- An empty set stands in a list, between a and b.
 abbrev pub VoidIn : List Node → List Node → List Node → Type 0
 VoidIn l a b = (s : List ℕ) × (l ≡ a ++ bset s ∷ b) × (noBytes s ≡ true)
 
+-- T7: an empty set goes from an alternation with another alternative; a group-free sequence holding it becomes it.
 abbrev pub VoidAlternative : List Node → List Node → Type 0
 VoidAlternative l m = (a : List Node) × (b : List Node) × VoidIn l a b × (m ≡ a ++ b)
 
--- a group-free sequence holding it becomes it.
 abbrev pub VoidItem : List Node → List Node → Type 0
 VoidItem l m = (a : List Node) × (b : List Node) × VoidIn l a b × (m ≡ bset void ∷ [])
 
 abbrev pub EmptySet : Node → Node → Type 0
 EmptySet r q = OnParts alternation VoidAlternative r q ⊎ ((groupFree r ≡ true) × OnParts sequence VoidItem r q)
 
--- T8: an alternative whose first item is the byte set s, unquantified; what is left of it; two adjacent ones with the same set;
+-- An alternative's first item is the byte set s, unquantified; and what is left of the alternative without its first item.
 abbrev pub Leads : List ℕ → Node → Type 0
 Leads s p = (k : List Node) × (items p ≡ bset s ∷ k)
 
 abbrev pub rest : Node → Node
 rest p = ofItems (drop 1 (items p))
 
-abbrev pub Pair : List Node → Type 0
-Pair l = (a : List Node) × (b : List Node) × (p : Node) × (q : Node) × (s : List ℕ)
+-- Two adjacent alternatives begin with the same set.
+abbrev pub Adjacent : List Node → Type 0
+Adjacent l = (a : List Node) × (b : List Node) × (p : Node) × (q : Node) × (s : List ℕ)
     × (l ≡ a ++ p ∷ q ∷ b) × Leads s p × Leads s q
 
--- alternatives that do not begin with the set s.
+-- Alternatives do not begin with the set s: there are none, or the first one does not.
 abbrev pub Stops : List ℕ → List Node → Type 0
 Stops s [] = Unit {0}
 Stops s (p ∷ l) = Leads s p → ⊥
 
--- The leftmost longest run of two or more adjacent alternatives whose first item is the same byte set shares it: no two begin with
--- the same set up to the run, and what follows it does not begin with its set. Alternations among the rests give their alternatives.
+-- T8: the leftmost longest run of two or more adjacent alternatives whose first item is the same byte set shares it. No two up to
+-- it begin with the same set, what follows does not begin with its set, and alternations among the rests give their alternatives.
 abbrev pub SameFirst : List Node → List Node → Type 0
 SameFirst l m = (a : List Node) × (b : List Node) × (p : Node) × (q : Node) × (run : List Node) × (s : List ℕ)
-    × (l ≡ a ++ p ∷ q ∷ (run ++ b)) × All (Leads s) (p ∷ q ∷ run) × (Pair (a ++ p ∷ []) → ⊥) × Stops s b
+    × (l ≡ a ++ p ∷ q ∷ (run ++ b)) × All (Leads s) (p ∷ q ∷ run) × (Adjacent (a ++ p ∷ []) → ⊥) × Stops s b
     × (m ≡ a ++ seq (bset s) (ofAlternatives (concatMap alternatives (map rest (p ∷ q ∷ run)))) ∷ b)
 
 -- T9: (?:p?)? is p?; (?:p??)?? is p??.
