@@ -16,6 +16,15 @@ use Rattle.tidying_laws.specs.Around.{Around.below, Around.inMany, fill,
 use Rattle.tidying_laws.specs.Kept.{Ok}
 use Rattle.tidying_laws.specs.List.{Law, laws, becomes, each-law, each-words}
 
+-- By the words of a law a part becomes one that is alike, inside any surrounding pattern;
+pub laws-alike : All (λ W. (r q : Node) → W r q → Positive (groups r) → (a : Around) → Alike (fill a r) (fill a q)) becomes
+laws-alike = each-words _ (λ l r q h p a. anywhere a (l .holds r q h p))
+
+-- and there the standard's algorithm matches the same and finds the same with both, with every group, from any start.
+abbrev pub SameAnywhere : Node → Node → Type 0
+SameAnywhere r q = (a : Around) (n : ℕ) → Numbers 1 (fill a r) n → (w : Input) → Fair w → (g i : ℕ) → i ≤ size w
+    → (matchAt w g (fill a r) i ≡ matchAt w g (fill a q) i) × (searchFrom w g (fill a r) i ≡ searchFrom w g (fill a q) i)
+
 -- No group of a part is group 0, if none of the whole is.
 part-positive : (a : Around) (r : Node) → Positive (groups (fill a r)) → Positive (groups r)
 unfolding fill groups
@@ -27,22 +36,10 @@ part-positive (above a q) r p = part-positive a r (positive-both (groups (fill a
 part-positive (below q a) r p = part-positive a r (positive-both (groups q) (groups (fill a r)) p .1)
 part-positive (inMany n e lazy a) r p = part-positive a r p
 
--- By the words of a law a part becomes one that is alike, inside any surrounding pattern;
-alike-there : (l : Law) (r q : Node) → l .words r q → (a : Around) → Positive (groups (fill a r)) → Alike (fill a r) (fill a q)
-alike-there l r q h a p = anywhere a (l .holds r q h (part-positive a r p))
-
-pub laws-alike : All (λ W. (r q : Node) → W r q → (a : Around) → Positive (groups (fill a r)) → Alike (fill a r) (fill a q))
-    becomes
-laws-alike = each-words _ alike-there
-
--- and there the standard's algorithm matches the same and finds the same with both, with every group, from any start.
-abbrev pub SameAnywhere : Node → Node → Type 0
-SameAnywhere r q = (a : Around) (n : ℕ) → Numbers 1 (fill a r) n → (w : Input) → Fair w → (g i : ℕ) → i ≤ size w
-    → (matchAt w g (fill a r) i ≡ matchAt w g (fill a q) i) × (searchFrom w g (fill a r) i ≡ searchFrom w g (fill a q) i)
-
 same-there : (l : Law) (r q : Node) → l .words r q → SameAnywhere r q
 same-there l r q h a n k w fair g i b =
-    let s : Alike (fill a r) (fill a q) = alike-there l r q h a (positive (fill a r) 1 n (omega arith) k) in
+    let p : Positive (groups r) = part-positive a r (positive (fill a r) 1 n (omega arith) k) in
+    let s : Alike (fill a r) (fill a q) = anywhere a (l .holds r q h p) in
     (same-match s n k w fair g i b, same-search s n k w fair g i b)
 
 pub laws-anywhere : All (λ W. (r q : Node) → W r q → SameAnywhere r q) becomes

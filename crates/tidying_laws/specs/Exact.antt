@@ -138,8 +138,7 @@ distinct-finds seen (r ∷ l) = let P : List Node → Type 0 = Repeats seen (r �
       where
         by : (a b : List Node) (p : Node) → l ≡ a ++ p ∷ b → groupFree p ≡ true → m ≡ a ++ b → (t : Bool) → same p r ≡ t
             → (t || any (same p) seen) ≡ true → Repeats seen (r ∷ l) (r ∷ m)
-        by a b p e g f true t s = let i : p ≡ r = same-eq p r t in
-            inr ([], a, b, p, rw (e, i), g, rw (f, i))
+        by a b p e g f true t s = let i : p ≡ r = same-eq p r t in inr ([], a, b, p, rw (e, i), g, rw (f, i))
         by a b p e g f false t s = inl (r ∷ a, b, p, ap (λ l. r ∷ l) e, g, s, ap (λ m. r ∷ m) f)
     further m (inr h) = let (a, b, c, p, e, g, f) = h in inr (r ∷ a, b, c, p, ap (λ l. r ∷ l) e, g, ap (λ m. r ∷ m) f)
 
@@ -230,7 +229,12 @@ share-finds (r ∷ l) = by (sharedAt (firstSet (items r)) (r ∷ l)) refl (at (f
 pub t8-exact : Exact t8 (OnParts alternation SameFirst)
 t8-exact = record { fits = t8-fits; only = on-list SameFirst share share-finds }
 
--- So T8 applies wherever two adjacent alternatives begin with the same set.
+-- So T1 applies wherever an item of a sequence is empty, and T8 wherever two adjacent alternatives begin with the same set.
+pub empty-applies : (r : Node) (a b : List Node) → items r ≡ a ++ empty ∷ b → 2 ≤ length (items r)
+    → (q : Node) × OnParts sequence EmptyItem r q
+empty-applies r a b e two = let m : List Node = filled (items r) in
+    (ofItems m, (m, two, (a, b, e, filled-others (items r)), refl))
+
 pub adjacent-applies : (r : Node) → Adjacent (alternatives r) → (q : Node) × OnParts alternation SameFirst r q
 adjacent-applies r h = let (a, b, p, q, s, e, g, i) = h in let l : List Node = alternatives r in
     from (share l) (share-finds l) (rw e (share-fits a b p q s g i))
