@@ -18,7 +18,7 @@ use Rattle.tidying_laws.specs.Holds.{t8-holds, t9-holds}
 use Rattle.tidying_laws.specs.Exact.{Exact, t1-exact, t2-exact, t3-exact, t4-exact, t5-exact, t6-exact, t7-exact}
 use Rattle.tidying_laws.specs.Exact.{t8-exact, t9-exact}
 
--- A law: what it makes of a part, the outline's words for it, that it makes exactly that, that the words hold, and what it keeps.
+-- A law: what it makes of a part, the outline's words for it, that it makes exactly that, that those hold, and what it keeps.
 pub record Law : Type 1 where
   pub makes : Node → Option Node
   pub words : Node → Node → Type 0

@@ -88,8 +88,8 @@ abbrev pub Stops : List ℕ → List Node → Type 0
 Stops s [] = Unit {0}
 Stops s (p ∷ l) = Leads s p → ⊥
 
--- T8: the leftmost longest run of two or more adjacent alternatives whose first item is the same byte set shares it. No two up to
--- it begin with the same set, what follows does not begin with its set, and alternations among the rests give their alternatives.
+-- T8: the leftmost longest run of two or more adjacent alternatives whose first item is the same byte set shares it. Up to it no
+-- two begin with the same set, what follows does not begin with its set, and alternations in the rests give their alternatives.
 abbrev pub SameFirst : List Node → List Node → Type 0
 SameFirst l m = (a : List Node) × (b : List Node) × (p : Node) × (q : Node) × (run : List Node) × (s : List ℕ)
     × (l ≡ a ++ p ∷ q ∷ (run ++ b)) × All (Leads s) (p ∷ q ∷ run) × (Adjacent (a ++ p ∷ []) → ⊥) × Stops s b
