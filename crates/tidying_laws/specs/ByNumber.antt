@@ -1,7 +1,7 @@
 -- The laws by their numbers, which count from 1 in the order of the list: no other number has a law.
 use mathlib.Core.Path.{_≡_, refl, sym, ap, _∙_}
 use mathlib.Core.Option.{Option, none, some, Option·none-ne-some}
-use mathlib.Core.List.{List, _∷_}
+use mathlib.Core.List.{_∷_}
 use Prim.Native.Nat.{ℕ, zero, suc, _≤_}
 use native.Mathlib.Decide.{decLe}
 use native.Mathlib.Omega.{arith}

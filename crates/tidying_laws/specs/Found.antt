@@ -149,9 +149,10 @@ pub no-words : (r : Node) → All (λ f. f r ≡ none) laws → All (λ W. W r �
 unfolding laws words
 no-words r = go list
   where
-    go : (l : List Law) → All (λ f. f r ≡ none) (map (λ l. l .makes) l) → All (λ W. W r → ⊥) (map (λ l. l .words) l)
+    go : (l : List Law) → All (λ f. f r ≡ none) (map (λ l. l .makes) l)
+        → All (λ (W : Node → Type 0). W r → ⊥) (map (λ W r. (q : Node) × W r q) (map (λ l. l .words) l))
     go [] h = tt
-    go (x ∷ l) h = (λ w. subst IsSome (h .0) (x .exact .fits r w), go l (h .1))
+    go (x ∷ l) h = (λ w. subst IsSome (h .0) (x .exact .fits r (w .0) (w .1)), go l (h .1))
 
 -- A pattern has as many places as records; its end, as a part of more, does not count.
 abbrev ending : Option Kind → Node → ℕ

@@ -1,6 +1,7 @@
 -- T1 and T7 keep what a law must: laws on the items of a sequence.
 use mathlib.Core.Path.{_≡_, refl, sym, ap, _∙_}
 use mathlib.Core.Bool.{Bool, true, false, cond, _&&_, _||_, false≢true}
+use mathlib.Core.Logic.{inl, inr}
 use mathlib.Core.Option.{Option, none}
 use mathlib.Core.List.{List, [], _∷_, _++_}
 use Prim.Native.Nat.{ℕ, _+_, _≤_, _<_}
@@ -17,7 +18,7 @@ use Rattle.tidying_laws.specs.Choices.{guarded, any}
 use Rattle.tidying_laws.specs.Groups.{groups, groupFree, free-groups}
 use Rattle.tidying_laws.specs.Void.{void, void-no-bytes, void-formed, Fair}
 use Rattle.tidying_laws.specs.Alike.{SameOrder}
-use Rattle.tidying_laws.specs.Equal.{same-eq}
+use Rattle.tidying_laws.specs.Equal.{same-eq, same-refl}
 use Rattle.meaning.specs.Flat.{Kind.sequence, items, ofItems, join-parts, adds-link, adds-parts, Spreads, spreads-link}
 use Rattle.meaning.specs.Flat.{spreads-parts, Part, flat-spreads, proper-spreads}
 use Rattle.tidying_laws.specs.Measures.{total, weight, weighs, weight-adds, rowsIn, rows-adds}
@@ -25,6 +26,7 @@ use Rattle.tidying_laws.specs.Measures.{groupsOf, groups-adds, groups-jo
 use Rattle.tidying_laws.specs.Tried.{runs, runs-join}
 use Rattle.tidying_laws.specs.Charge.{extra, charge, cost, cost-adds, item-one, light, extra-parts}
 use Rattle.tidying_laws.specs.Laws.{when, onAlternatives, isEmpty, filled, t1, isVoid, possible, impossible, t7}
+use Rattle.tidying_laws.specs.Words.{Others}
 use Rattle.tidying_laws.specs.Kept.{Ok, ok-when, ok-two, ok-else, Kept}
 use Rattle.tidying_laws.specs.Alternatives.{void-set, void-none, possible-kept}
 
@@ -52,9 +54,9 @@ pub record Filled (l m : List Node) : Type 1 where
   pub less : length l + total weight m ≤ length m + total weight l
   pub light : total (cost sequence) m ≤ total (cost sequence) l
 
-pub filled-all : (l : List Node) → Filled l (filled l)
-unfolding filled groups sizeOf weight results
-filled-all [] = record {
+pub others-filled : (l m : List Node) → Others l m → Filled l m
+unfolding groups sizeOf weight results
+others-filled [] m e = rw e (record {
   like = λ w fair B c x hx. refl;
   numbers = refl;
   flat = λ g. g;
@@ -62,30 +64,37 @@ filled-all [] = record {
   fewer = omega arith;
   less = omega arith;
   light = omega arith;
-}
-filled-all (r ∷ l) = by (filled-all l) (isEmpty r) refl
+})
+others-filled (r ∷ l) m (inl o) = let h : Filled l m = others-filled l m (o .1) in rw (o .0) (record {
+  like = λ w fair B c x hx. orElse-none (runs w c l x) ∙ h .like w fair B c x hx;
+  numbers = h .numbers;
+  flat = λ g. h .flat (g .1);
+  proper = λ g. h .proper (g .1);
+  fewer = omega (arith, h .fewer);
+  less = omega (arith, h .less);
+  light = omega (arith, h .light);
+})
+others-filled (r ∷ l) m (inr o) = let (k, n, g, e) = o in let h : Filled l k = others-filled l k g in rw e (record {
+  like = λ w fair B c x hx.
+      first-cong (Reach w x) (runs w c l) (runs w c k) (results w r x) (reach w r x hx)
+      (λ y g. h .like w fair B c y (g .stop));
+  numbers = ap (λ k. groups r ++ k) (h .numbers);
+  flat = λ g. (g .0, h .flat (g .1));
+  proper = λ g. (g .0, h .proper (g .1));
+  fewer = omega (arith, h .fewer);
+  less = omega (arith, h .less);
+  light = omega (arith, h .light);
+})
+
+-- What T1 leaves of a list are the others.
+pub filled-others : (l : List Node) → Others l (filled l)
+unfolding filled
+filled-others [] = refl
+filled-others (r ∷ l) = by (filled-others l) (isEmpty r) refl
   where
-    by : Filled l (filled l) → (b : Bool) → isEmpty r ≡ b → Filled (r ∷ l) (cond b (filled l) (r ∷ filled l))
-    by h true e = rw (same-eq r empty e) (record {
-      like = λ w fair B c x hx. orElse-none (runs w c l x) ∙ h .like w fair B c x hx;
-      numbers = h .numbers;
-      flat = λ g. h .flat (g .1);
-      proper = λ g. h .proper (g .1);
-      fewer = omega (arith, h .fewer);
-      less = omega (arith, h .less);
-      light = omega (arith, h .light);
-    })
-    by h false e = record {
-      like = λ w fair B c x hx.
-          first-cong (Reach w x) (runs w c l) (runs w c (filled l)) (results w r x) (reach w r x hx)
-          (λ y g. h .like w fair B c y (g .stop));
-      numbers = ap (λ k. groups r ++ k) (h .numbers);
-      flat = λ g. (g .0, h .flat (g .1));
-      proper = λ g. (g .0, h .proper (g .1));
-      fewer = omega (arith, h .fewer);
-      less = omega (arith, h .less);
-      light = omega (arith, h .light);
-    }
+    by : Others l (filled l) → (b : Bool) → isEmpty r ≡ b → Others (r ∷ l) (cond b (filled l) (r ∷ filled l))
+    by h true e = inl (same-eq r empty e, h)
+    by h false e = inr (filled l, λ f. false≢true (sym e ∙ rw f (same-refl empty)), h, refl)
 
 -- With an empty item the list gets shorter, and never longer.
 abbrev Shorter : Bool → List Node → List Node → Type 0
@@ -136,7 +145,7 @@ pub t1-kept : (r : Node) → Ok (Kept r) (t1 r)
 t1-kept r = let l : List Node = items r in
     ok-two (Kept r) (λ l. when (any isEmpty l) (ofItems (filled l))) l (λ h.
     ok-when (Kept r) (any isEmpty l) (ofItems (filled l)) (λ t.
-    filled-kept r (filled l) h (filled-all l) (shorter l .1 t)))
+    filled-kept r (filled l) h (others-filled l (filled l) (filled-others l)) (shorter l .1 t)))
 
 -- What T7 finds of a list of items that holds an empty set: it leads nowhere.
 pub record Dead (l : List Node) : Type 1 where

@@ -2,12 +2,11 @@
 use mathlib.Core.Path.{_≡_, refl, sym, ap, _∙_}
 use mathlib.Core.Bool.{Bool, true, false, cond}
 use mathlib.Core.Option.{Option, none, some, Option·map}
-use mathlib.Core.List.{List, [], _∷_, _++_, map}
+use mathlib.Core.List.{List, [], _∷_, _++_}
 use Prim.Native.Nat.{ℕ, _+_, _≤_, _<_}
 use native.Mathlib.Nat.{mul-le-mul-left}
 use native.Mathlib.Omega.{arith}
 use lib.ListN.{length}
-use Rattle.meaning.specs.All.{All}
 use Rattle.meaning.specs.Node.{Node, Node.group, Node.many, Proper}
 use Rattle.meaning.specs.Results.{orElse}
 use Rattle.machine.specs.Layout.{sizeOf}
@@ -40,6 +39,10 @@ module _ {κ} {A : Type 0} (P : A → Type κ) where
       → (o : Option Z) → Ok Q o → Ok P (Option·map f o)
   ok-map Q f g none h = tt
   ok-map Q f g (some z) h = g z h
+
+  pub ok-imp : (Q : A → Type κ) → ((a : A) → Q a → P a) → (o : Option A) → Ok Q o → Ok P o
+  ok-imp Q g none h = tt
+  ok-imp Q g (some a) h = g a h
 
   pub ok-two : (f : List Node → Option A) (l : List Node) → (2 ≤ length l → Ok P (f l)) → Ok P (two f l)
   ok-two f [] h = tt

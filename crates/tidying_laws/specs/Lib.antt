@@ -19,9 +19,11 @@ pub mod Items
 pub mod Quantifiers
 pub mod Lists
 pub mod Words
+pub mod Holds
 pub mod Fits
 pub mod Exact
 pub mod List
+pub mod Anywhere
 pub mod Tidier
 pub mod Found
 pub mod ByNumber

@@ -2,21 +2,26 @@
 use mathlib.Core.Path.{_≡_, sym, subst, _∙_}
 use mathlib.Core.Bool.{Bool, true, or-true}
 use mathlib.Core.List.{List, [], _∷_, _++_, map}
-use Prim.Native.Nat.{ℕ, _≤_}
+use Prim.Native.Nat.{_≤_}
 use native.Mathlib.Omega.{arith}
-use lib.ListN.{length, length-append}
-use Rattle.meaning.specs.Node.{Node, Node.bset, Node.seq}
+use lib.ListN.{length}
+use Rattle.meaning.specs.Node.{Node, Node.bset}
 use Rattle.tidying_laws.specs.Choices.{any}
 use Rattle.tidying_laws.specs.Groups.{groups, Positive, groupFree, free-groups, free-positive}
-use Rattle.tidying_laws.specs.Void.{noBytes, void}
 use Rattle.tidying_laws.specs.Alike.{Alike, alike}
 use Rattle.tidying_laws.specs.Equal.{same, same-refl}
 use Rattle.meaning.specs.Flat.{Kind, Kind.sequence, Kind.alternation, join, ofItems, ofAlternatives}
 use Rattle.tidying_laws.specs.Measures.{groupsOf, groups-join}
-use Rattle.tidying_laws.specs.Laws.{isVoid, filled, glues}
+use Rattle.tidying_laws.specs.Laws.{isVoid}
+use Rattle.tidying_laws.specs.Words.{EmptyItem, EqualAlternative, VoidAlternative, VoidItem, SameFirst, rest}
 use Rattle.tidying_laws.specs.Alternatives.{Trimmed, trimmed-order, one-more, past, several-more, equal-gone, void-gone}
-use Rattle.tidying_laws.specs.Shared.{Shares, lead-begins, shares-none, shares-more, shares-trimmed}
-use Rattle.tidying_laws.specs.Items.{runs-order, filled-all, dead, dead-order}
+use Rattle.tidying_laws.specs.Runs.{glues-join}
+use Rattle.tidying_laws.specs.Shared.{leads-share, shares-trimmed}
+use Rattle.tidying_laws.specs.Items.{Filled, runs-order, others-filled, dead, dead-order}
+
+-- What a law makes of a list of two or more parts is alike.
+abbrev pub AlikeOn : Kind → (List Node → List Node → Type 0) → Type 1
+AlikeOn k L = (l m : List Node) → 2 ≤ length l → L l m → Positive (groupsOf l) → Alike (join k l) (join k m)
 
 positive-join : (k : Kind) (l : List Node) → Positive (groupsOf l) → Positive (groups (join k l))
 positive-join k l h = subst Positive (sym (groups-join k l)) h
@@ -25,63 +30,47 @@ same-groups : (k : Kind) (l m : List Node) → groupsOf l ≡ groupsOf m → gro
 same-groups k l m e = groups-join k l ∙ e ∙ sym (groups-join k m)
 
 -- T1: empty items leave a sequence.
-pub T1 : (l : List Node) → Positive (groupsOf l) → Alike (ofItems l) (ofItems (filled l))
-T1 l p = alike (positive-join sequence l p) (same-groups sequence l (filled l) (filled-all l .numbers))
-    (runs-order l (filled l) (filled-all l .like))
+pub T1 : AlikeOn sequence EmptyItem
+T1 l m two h p = let f : Filled l m = others-filled l m (h .3) in
+    alike (positive-join sequence l p) (same-groups sequence l m (f .numbers)) (runs-order l m (f .like))
 
-trimmed-alike : (l m : List Node) → 1 ≤ length l → 1 ≤ length m → Positive (groupsOf l) → Trimmed [] l m
+trimmed-alike : (l m : List Node) → 2 ≤ length l → Positive (groupsOf l) → Trimmed [] l m
     → Alike (ofAlternatives l) (ofAlternatives m)
-trimmed-alike l m hl hm p t =
-    alike (positive-join alternation l p) (same-groups alternation l m (t .numbers)) (trimmed-order l m hl hm t)
-
-some-more : (a b : List Node) (r : Node) → 1 ≤ length (a ++ r ∷ b)
-some-more a b r = rw length-append (omega arith)
+trimmed-alike l m two p t =
+    alike (positive-join alternation l p) (same-groups alternation l m (t .numbers))
+    (trimmed-order l m (omega arith) (t .some-left two) t)
 
 -- T6: an alternative equal to an earlier one goes.
-pub T6 : (a b m : List Node) (r : Node) → groupFree r ≡ true → Positive (groupsOf (a ++ r ∷ (b ++ r ∷ m)))
-    → Alike (ofAlternatives (a ++ r ∷ (b ++ r ∷ m))) (ofAlternatives (a ++ r ∷ (b ++ m)))
-T6 a b m r h p = let seen : List Node = past a [] in
-    trimmed-alike _ _ (some-more a (b ++ r ∷ m) r) (some-more a (b ++ m) r) p
-    (several-more a [] (r ∷ (b ++ r ∷ m)) (r ∷ (b ++ m)) (one-more seen (b ++ r ∷ m) (b ++ m) r
-    (several-more b (r ∷ seen) (r ∷ m) m (equal-gone (past b (r ∷ seen)) m r h (still-seen b (r ∷ seen) (rw (same-refl r)))))))
+pub T6 : AlikeOn alternation EqualAlternative
+T6 l m two h p = let (a, b, c, r, e, g, f) = h in let seen : List Node = past a [] in
+    trimmed-alike l m two p (rw (e, f)
+    (several-more a [] (r ∷ (b ++ r ∷ c)) (r ∷ (b ++ c)) (one-more seen (b ++ r ∷ c) (b ++ c) r
+    (several-more b (r ∷ seen) (r ∷ c) c
+    (equal-gone (past b (r ∷ seen)) c r g (still-seen r b (r ∷ seen) (rw (same-refl r))))))))
   where
-    still-seen : (b seen : List Node) → any (same r) seen ≡ true → any (same r) (past b seen) ≡ true
-    still-seen [] seen e = e
-    still-seen (q ∷ b) seen e = still-seen b (q ∷ seen) (rw e (or-true (same r q)))
+    still-seen : (r : Node) (b seen : List Node) → any (same r) seen ≡ true → any (same r) (past b seen) ≡ true
+    still-seen r [] seen e = e
+    still-seen r (q ∷ b) seen e = still-seen r b (q ∷ seen) (rw e (or-true (same r q)))
 
 -- T7: an empty set goes from an alternation with another alternative,
-pub T7 : (a b : List Node) (s : List ℕ) → noBytes s ≡ true → 1 ≤ length (a ++ b) → Positive (groupsOf (a ++ bset s ∷ b))
-    → Alike (ofAlternatives (a ++ bset s ∷ b)) (ofAlternatives (a ++ b))
-T7 a b s e h p = trimmed-alike _ _ (some-more a b (bset s)) h p (several-more a [] (bset s ∷ b) b (void-gone (past a []) b s e))
+pub T7 : AlikeOn alternation VoidAlternative
+T7 l m two h p = let (a, b, v, f) = h in let (s, e, n) = v in
+    trimmed-alike l m two p (rw (e, f) (several-more a [] (bset s ∷ b) b (void-gone (past a []) b s n)))
 
 -- and a sequence with no group that holds one becomes it.
 pub any-has : (p : Node → Bool) (a b : List Node) (r : Node) → p r ≡ true → any p (a ++ r ∷ b) ≡ true
 any-has p [] b r h = rw h
 any-has p (q ∷ a) b r h = rw (any-has p a b r h) (or-true (p q))
 
-pub T7-sequence : (a b : List Node) (s : List ℕ) → noBytes s ≡ true → groupFree (ofItems (a ++ bset s ∷ b)) ≡ true
-    → Alike (ofItems (a ++ bset s ∷ b)) (bset void)
+pub T7-sequence : (l m : List Node) → VoidItem l m → groupFree (ofItems l) ≡ true → Alike (ofItems l) (ofItems m)
 unfolding groups
-T7-sequence a b s e h = let l : List Node = a ++ bset s ∷ b in
-    alike (free-positive (ofItems l) h) (free-groups (ofItems l) h)
-    (dead-order l (dead l (any-has isVoid a b (bset s) e)))
+T7-sequence l m h g = let (a, b, v, f) = h in let (s, e, n) = v in
+    rw f (alike (free-positive (ofItems l) g) (free-groups (ofItems l) g)
+    (dead-order l (dead l (rw e (any-has isVoid a b (bset s) n)))))
 
 -- T8: two or more adjacent alternatives whose first item is the same byte set share it.
-abbrev pub lead : List ℕ → List Node → Node
-lead s l = ofItems (bset s ∷ l)
-
-leads-share : (s : List ℕ) (ls : List (List Node)) (b : List Node) → Shares s (map (lead s) ls ++ b) (map ofItems ls, b)
-leads-share s [] b = shares-none s b
-leads-share s (l ∷ ls) b =
-    shares-more s (lead s l) (ofItems l) (map (lead s) ls ++ b) _ (lead-begins s l) (leads-share s ls b)
-
-pub T8 : (a b : List Node) (s : List ℕ) (l m : List Node) (ls : List (List Node))
-    → Positive (groupsOf (a ++ (map (lead s) (l ∷ m ∷ ls) ++ b)))
-    → Alike (ofAlternatives (a ++ (map (lead s) (l ∷ m ∷ ls) ++ b)))
-    (ofAlternatives (a ++ seq (bset s) (glues (ofItems l) (map ofItems (m ∷ ls))) ∷ b))
-T8 a b s l m ls p =
-    let run : List Node = map (lead s) (l ∷ m ∷ ls) ++ b in
-    let shared : Node = seq (bset s) (glues (ofItems l) (map ofItems (m ∷ ls))) in
-    trimmed-alike (a ++ run) (a ++ shared ∷ b) (some-more a (map (lead s) (m ∷ ls) ++ b) (lead s l)) (some-more a b shared) p
-    (several-more a [] run (shared ∷ b) (shares-trimmed (past a []) s run (ofItems l) (ofItems m)
-    (map ofItems ls) b (leads-share s (l ∷ m ∷ ls) b)))
+pub T8 : AlikeOn alternation SameFirst
+T8 l m two h t = let (a, b, p, q, run, s, e, leads, left, stop, f) = h in
+    trimmed-alike l m two t (rw (e, f, ← glues-join (rest p) (map rest (q ∷ run)))
+    (several-more a [] (p ∷ q ∷ (run ++ b)) _ (shares-trimmed (past a []) s (p ∷ q ∷ (run ++ b))
+    (rest p) (rest q) (map rest run) b (leads-share s (p ∷ q ∷ run) b leads))))

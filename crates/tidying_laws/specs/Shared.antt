@@ -15,16 +15,16 @@ use Rattle.tidying_laws.specs.Choices.{guarded, first-only}
 use Rattle.tidying_laws.specs.Groups.{groups}
 use Rattle.tidying_laws.specs.Void.{Fair}
 use Rattle.tidying_laws.specs.Alike.{SameOrder, order-refl, order-trans, order-seq, order-alt}
-use Rattle.tidying_laws.specs.Equal.{same, same-eq}
 use Rattle.meaning.specs.Flat.{Kind.sequence, Kind.alternation, items, ofItems, link, join-parts, fold, Adds, adds-glue}
 use Rattle.meaning.specs.Flat.{Spreads, spreads-glue, Flat, Part, flat-spreads, proper-spreads}
 use Rattle.tidying_laws.specs.Measures.{total, weight, weight-adds, rowsIn, rows-adds}
 use Rattle.tidying_laws.specs.Measures.{groupsOf, groups-adds}
 use Rattle.tidying_laws.specs.Tried.{glue-pair, tried, triedAll, tries}
 use Rattle.tidying_laws.specs.Charge.{extra, charge, cost, cost-adds, extra-one}
+use Rattle.tidying_laws.specs.Words.{Leads, rest}
 use Rattle.tidying_laws.specs.Runs.{Longest, run-longest}
-use Rattle.tidying_laws.specs.Laws.{restOf, firstSet, Run, run, glues, shared, sharedAt, share, t8}
-use Rattle.tidying_laws.specs.Kept.{Ok, ok-when, ok-else, Kept}
+use Rattle.tidying_laws.specs.Laws.{firstSet, Run, run, glues, shared, sharedAt, share, t8}
+use Rattle.tidying_laws.specs.Kept.{Ok, ok-else, Kept}
 use Rattle.tidying_laws.specs.Alternatives.{Trimmed, further, on-alternatives}
 
 -- What an alternative r is whose first item is s, with p left.
@@ -42,7 +42,7 @@ unfolding results
 then-empty r = record { order = λ w fair B c x hx. simp (first-concatMap, orElse-none) }
 
 -- The items s and then l are such an alternative, with the items l left.
-pub lead-begins : (s : List ℕ) (l : List Node) → Begins s (ofItems (bset s ∷ l)) (ofItems l)
+lead-begins : (s : List ℕ) (l : List Node) → Begins s (ofItems (bset s ∷ l)) (ofItems l)
 unfolding groups sizeOf weight charge extra
 lead-begins s [] = record {
   like = then-empty (bset s);
@@ -63,14 +63,10 @@ lead-begins s (q ∷ l) = record {
   light = omega arith;
 }
 
--- So is any alternative of which T8 finds something left.
-rest-begins : (s : List ℕ) (r : Node) → Ok (Begins s r) (restOf s (items r))
-rest-begins s r = from (items r) (join-parts sequence r)
-  where
-    from : (l : List Node) → ofItems l ≡ r → Ok (Begins s r) (restOf s l)
-    from [] e = tt
-    from (t ∷ l) e =
-        ok-when (Begins s r) (same t (bset s)) (ofItems l) (λ u. rw (← e, same-eq t (bset s) u) (lead-begins s l))
+-- So is any alternative that leads with s.
+leads-begins : (s : List ℕ) (r : Node) → Leads s r → Begins s r (rest r)
+leads-begins s r h = let (k, e) = h in
+    rw e (subst (λ q. Begins s q (ofItems k)) (ap ofItems (sym e) ∙ join-parts sequence r) (lead-begins s k))
 
 -- The first success over s in front of each pattern of a list.
 abbrev led : {B : Type 0} → Input → (State → Option B) → State → List ℕ → List Node → Option B
@@ -88,7 +84,7 @@ pub record Shares (s : List ℕ) (l : List Node) (t : Run) : Type 1 where
   pub light : total (λ p. charge p + 2) (t .0) + total (cost alternation) (t .1) ≤ total (cost alternation) l
 
 -- There is none, one more in front, or as many as T8 takes.
-pub shares-none : (s : List ℕ) (l : List Node) → Shares s l ([], l)
+shares-none : (s : List ℕ) (l : List Node) → Shares s l ([], l)
 shares-none s l = record {
   like = λ w fair B c x hx. refl;
   numbers = refl;
@@ -99,7 +95,7 @@ shares-none s l = record {
   light = omega arith;
 }
 
-pub shares-more : (s : List ℕ) (r p : Node) (l : List Node) (t : Run) → Begins s r p → Shares s l t
+shares-more : (s : List ℕ) (r p : Node) (l : List Node) (t : Run) → Begins s r p → Shares s l t
     → Shares s (r ∷ l) (p ∷ t .0, t .1)
 shares-more s r p l t b h = record {
   like = λ w fair B c x hx. rw (h .like w fair B c x hx, b .like .order w fair B c x hx)
@@ -112,17 +108,10 @@ shares-more s r p l t b h = record {
   light = omega (arith, h .light, b .light);
 }
 
-longest-shares : (s : List ℕ) (l : List Node) (t : Run) → Longest s l t → Shares s l t
-longest-shares s l t h = rw (h .split) (go (h .front) (t .0) (h .begin))
-  where
-    go : (front ps : List Node) → map (λ r. restOf s (items r)) front ≡ map some ps
-        → Shares s (front ++ t .1) (ps, t .1)
-    go [] [] e = shares-none s (t .1)
-    go [] (p ∷ ps) e = absurd (let z : _≡_ {A = ℕ} 0 1 = cc in omega arith)
-    go (r ∷ front) [] e = absurd (let z : _≡_ {A = ℕ} 0 1 = cc in omega arith)
-    go (r ∷ front) (p ∷ ps) e =
-        let b : restOf s (items r) ≡ some p = cc in
-        shares-more s r p (front ++ t .1) (ps, t .1) (subst (Ok (Begins s r)) b (rest-begins s r)) (go front ps cc)
+pub leads-share : (s : List ℕ) (front m : List Node) → All (Leads s) front → Shares s (front ++ m) (map rest front, m)
+leads-share s [] m h = shares-none s m
+leads-share s (r ∷ front) m h =
+    shares-more s r (rest r) (front ++ m) (map rest front, m) (leads-begins s r (h .0)) (leads-share s front m (h .1))
 
 -- One alternation of what is left: its measures add up, and it is flat and proper.
 module _ {M : Type 0} {op : M → M → M} {unit : M} {f : Node → M} (h : Adds alternation op unit f) where
@@ -204,14 +193,15 @@ share-trimmed seen (r ∷ l) = let s : Option (List ℕ) = firstSet (items r) in
     ok-else (Trimmed seen (r ∷ l)) (sharedAt s (r ∷ l)) (Option·map (λ m. r ∷ m) (share l))
     (at (r ∷ l) s) (further seen l r (share l) (share-trimmed (r ∷ seen) l))
   where
-    by : (s : List ℕ) (l ps m : List Node) → Shares s l (ps, m) → Ok (Trimmed seen l) (shared s ps m)
+    by : (s : List ℕ) (l ps m : List Node) → Longest s l (ps, m) → Ok (Trimmed seen l) (shared s ps m)
     by s l [] m h = tt
     by s l (p ∷ []) m h = tt
-    by s l (p ∷ q ∷ ps) m h = shares-trimmed seen s l p q ps m h
+    by s l (p ∷ q ∷ ps) m h =
+        shares-trimmed seen s l p q ps m (rw (h .split, h .left) (leads-share s (h .front) m (h .begin)))
 
     at : (l : List Node) (o : Option (List ℕ)) → Ok (Trimmed seen l) (sharedAt o l)
     at l none = tt
-    at l (some s) = by s l (run s l .0) (run s l .1) (longest-shares s l (run s l) (run-longest s l))
+    at l (some s) = by s l (run s l .0) (run s l .1) (run-longest s l)
 
 pub t8-kept : (r : Node) → Ok (Kept r) (t8 r)
 t8-kept = on-alternatives share (share-trimmed [])

@@ -1,11 +1,8 @@
--- Every law keeps what it must, inside any surrounding pattern and at every place; and so does a step of the tidier.
-use mathlib.Core.Path.{_≡_, subst}
+-- Every law keeps what it must, at every place; and so does a step of the tidier.
 use mathlib.Core.Option.{Option, none, some}
 use mathlib.Core.List.{List, [], _∷_, _++_, map}
 use Rattle.meaning.specs.Node.{Node, Node.empty, Node.bset, Node.assert, Node.group, Node.seq, Node.alt, Node.many}
 use Rattle.tidying_laws.specs.Groups.{groups, Positive, positive-both}
-use Rattle.tidying_laws.specs.Alike.{Alike, alike}
-use Rattle.tidying_laws.specs.Around.{Around, fill, anywhere}
 use Rattle.meaning.specs.Flat.{Kind, Kind.sequence, Kind.alternation, pair, glue}
 use Rattle.tidying_laws.specs.List.{laws, each-law}
 use Rattle.tidying_laws.specs.Tidier.{Place, itself, inside, whole, places, lowest, found, tidyStep}
@@ -17,11 +14,6 @@ use Rattle.tidying_laws.specs.Kept.{Kept, in-group, in-left, in-right, i
 -- Every law of the list keeps what it must.
 laws-kept : All (λ f. (r : Node) → Ok (Kept r) (f r)) laws
 laws-kept = each-law _ (λ l. l .kept)
-
--- What a law of the list makes of a pattern is alike, inside any surrounding pattern.
-pub laws-alike : All (λ f. (r q : Node) → Positive (groups r) → f r ≡ some q → (a : Around) → Alike (fill a r) (fill a q)) laws
-laws-alike = all-imp _ _ (λ f h r q p e a.
-    let k : Kept r q = subst (Ok (Kept r)) e (h r) in anywhere a (alike p (k .numbers) (k .like))) laws laws-kept
 
 lowest-kept : (r : Node) → Ok (λ t. Kept r (t .1)) (lowest r)
 unfolding lowest
