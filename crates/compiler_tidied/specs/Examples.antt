@@ -1,24 +1,17 @@
 -- Patterns compiled as they are tidied: the outline's numbers on both sides of 15 and 16, computed.
 use mathlib.Core.Path.{_≡_, refl}
 use mathlib.Core.List.{List, [], _∷_, _++_}
-use native.Mathlib.Decide.{ℕ-discrete}
 use Prim.Native.Nat.{ℕ}
 use Prim.Native.String.{String}
 use lib.ListN.{length, replicate}
-use Rattle.sets.specs.Sets.{setOf, wordOf, isDigit, bit, has}
+use Rattle.sets.specs.Sets.{setOf, wordOf, isDigit}
 use Rattle.meaning.specs.Quoted.{bytes}
 use Rattle.meaning.specs.Limits.{tableWords}
 use Rattle.meaning.specs.Node.{lo, hi}
 use Rattle.meaning.specs.Flat.{parts}
 use Rattle.machine.specs.Layout.{sizeOf}
 use Rattle.table.specs.Table.{recordsIn, ownRecord, wordsIn}
-use Rattle.tidying_laws.specs.Groups.{groups, groupFree}
-use Rattle.tidying_laws.specs.Void.{noBytes}
-use Rattle.tidying_laws.specs.Equal.{same, decList, decOption}
-use Rattle.tidying_laws.specs.Measures.{weight}
-use Rattle.tidying_laws.specs.List.{laws}
-use Rattle.tidying_laws.specs.Laws.{t1, t2, t3, t4, t5, t6, t7, t8, t9, filled, distinct, possible, run, glues, share}
-use Rattle.tidying_laws.specs.Tidier.{places, lowest, found, tidyStep, tidies, tidy}
+use Rattle.tidying_laws.specs.Vectors.{computed}
 use Rattle.reading_atoms.specs.Braces.{numberGo, numberAt, bracesAt, quantifierAt}
 use Rattle.reading_items.specs.Reading.{Reading, openingAt, itemBy, itemAt, sequenceGo, alternativesGo, reading}
 use Rattle.compiler.specs.Compiling as plain
@@ -38,15 +31,13 @@ answered s = (plain.answerBy (readOf s) 1164, answerBy (readOf s) 1164)
 either-way : (answered "a{1}?" ≡ (Rows 10 0, Rows 9 0)) × (answered "(?:a?)??" ≡ (Rows 17 0, Rows 17 0))
     × (answered "a|abc|d" ≡ (Rows 17 0, Rows 16 0))
 unfolding reading alternativesGo sequenceGo itemAt itemBy openingAt quantifierAt bracesAt numberAt numberGo parts isDigit sizeOf
-    tidy tidies tidyStep found lowest laws t1 t2 t3 t4 t5 t6 t7 t8 t9 places weight same decList decOption ℕ-discrete
-    groupFree groups filled distinct possible run glues share noBytes has bit setOf wordOf
+    computed setOf wordOf
 either-way = (refl, refl, refl)
 
 -- 16 is by the tidied rows: 108 need more words than there are, and 8 do not. 15 is by the plain ones: 2,008, and not 8.
 limits : (answered "(?:){100}" ≡ (Refused 16 0, Rows 8 0)) × (answered "(?:){1000}(?:){1000}" ≡ (Refused 15 0, Refused 15 0))
 unfolding reading alternativesGo sequenceGo itemAt itemBy openingAt quantifierAt bracesAt numberAt numberGo parts isDigit sizeOf
-    tidy tidies tidyStep found lowest laws t1 t2 t3 t4 t5 t6 t7 t8 t9 places weight same decList decOption ℕ-discrete
-    groupFree groups filled distinct possible run glues share noBytes has bit
+    computed
 limits = (refl, refl)
 
 -- The table of `a{1}?` holds the one record of `a`, and its code is that of `a`.
@@ -56,12 +47,10 @@ set = 0 ∷ 0 ∷ 0 ∷ 2 ∷ 0 ∷ 0 ∷ 0 ∷ 0 ∷ []
 one-record : tableLeft (readOf "a{1}?") 1164 (replicate 192 7)
     ≡ 2 ∷ 0 ∷ 1 ∷ 0 ∷ 1 ∷ 1 ∷ 0 ∷ 0 ∷ (set ++ replicate 176 0)
 unfolding reading alternativesGo sequenceGo itemAt itemBy openingAt quantifierAt bracesAt numberAt numberGo parts isDigit sizeOf
-    tidy tidies tidyStep found lowest laws t1 t2 t3 t4 t5 t6 t7 t8 t9 places weight same decList decOption ℕ-discrete
-    groupFree groups filled distinct possible run glues share noBytes has bit setOf wordOf recordsIn ownRecord wordsIn lo hi
+    computed setOf wordOf recordsIn ownRecord wordsIn lo hi
 one-record = refl
 
 same-code : codeLeft (readOf "a{1}?") (replicate 130 7) ≡ plain.codeLeft (readOf "a") (replicate 130 7)
 unfolding reading alternativesGo sequenceGo itemAt itemBy openingAt quantifierAt bracesAt numberAt numberGo parts isDigit sizeOf
-    tidy tidies tidyStep found lowest laws t1 t2 t3 t4 t5 t6 t7 t8 t9 places weight same decList decOption ℕ-discrete
-    groupFree groups filled distinct possible run glues share noBytes has bit setOf wordOf
+    computed setOf wordOf
 same-code = refl
