@@ -1,4 +1,4 @@
--- From what is found in a row to what is told of the law that looks for it. Assumes nothing.
+-- From what is found in a series to what is told of the law that looks for it. Assumes nothing.
 use mathlib.Core.Path.{_≡_, sym, ap, subst, _∙_}
 use mathlib.Core.Bool.{Bool, true, false, not, _&&_, _||_}
 use mathlib.Core.List.{List, []}
@@ -35,17 +35,17 @@ module _ {table : List ℕ} {top : ℕ} where
   pub grouped-told : (items : ℕ) {o : Record} → Tells o table top ownOf → (o .highest ≡ 0 → ⊥)
       → TellsLast false table top items (λ front q. goes (past front []) q)
   grouped-told items {o} t h = record {
-    by = λ before front q row.
-        sym (ap (λ b. b && repeats (past front []) q) (no-group t _ q (last-ends front q row) ∙ ne-eqb (o .highest) 0 h));
+    by = λ before front q series.
+        sym (ap (λ b. b && repeats (past front []) q) (no-group t _ q (last-ends front q series) ∙ ne-eqb (o .highest) 0 h));
   }
 
   pub ungrouped-told : {items : ℕ} {o : Record} → Tells o table top ownOf → o .highest ≡ 0 → {b : Bool}
       → TellsLast b table top items (λ front q. repeats (past front []) q) → TellsLast b table top items
       (λ front q. goes (past front []) q)
   ungrouped-told {items} {o} t h u = record {
-    by = λ before front q row.
-        u .by before front q row
-        ∙ sym (ap (λ b. b && repeats (past front []) q) (no-group t _ q (last-ends front q row) ∙ eq-eqb (o .highest) 0 h));
+    by = λ before front q series.
+        u .by before front q series
+        ∙ sym (ap (λ b. b && repeats (past front []) q) (no-group t _ q (last-ends front q series) ∙ eq-eqb (o .highest) 0 h));
   }
 
   -- A part of another kind has none, and one of the kind has one exactly if the walk found it.

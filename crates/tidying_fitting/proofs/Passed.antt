@@ -1,4 +1,4 @@
--- From the walks over rows, and from the byte sets that were read, to what is told of the parts. Assumes nothing.
+-- From the walks over series, and from the byte sets that were read, to what is told of the parts. Assumes nothing.
 use mathlib.Core.Path.{_≡_, refl, sym, ap, subst, _∙_}
 use mathlib.Core.Bool.{Bool, false, not, false≢true}
 use mathlib.Core.Option.{Option, none, some}
@@ -17,7 +17,7 @@ use Rattle.table.specs.Laws.{inner, kindOf, lastOf}
 use Rattle.tidying_laws.specs.Void.{noBytes, no-bytes}
 use Rattle.tidying_laws.specs.Laws.{isVoid, byteSet, firstSet, restOf}
 use Rattle.tidying_laws.specs.Equal.{same, same-eq, same-refl}
-use Rattle.tidying_fitting.specs.Parts.{Sound, Ends, Row, SomePart, Tells, TellsBoth, FirstEnds, firstItem}
+use Rattle.tidying_fitting.specs.Parts.{Sound, Ends, Series, SomePart, Tells, TellsBoth, FirstEnds, firstItem}
 use Rattle.tidying_fitting.specs.Parts.{inside, last-ends}
 use Rattle.tidying_fitting.specs.Words.{ownOf, startOf, same-test, when-some}
 use Rattle.tidying_fitting.specs.Marks.{alike, beginsWith}
@@ -79,7 +79,7 @@ nothing seen r = false
 -- The part that a turn comes to.
 pub turn-part : {test : Test} {l : List Node} {table : List ℕ} {end left : ℕ} {before : List ℕ} {found : ℕ}
     → Turn test l table end left before found → SomePart table end
-turn-part t = record { before = _; part = t .part; ends = last-ends (t .front) (t .part) (t .row) }
+turn-part t = record { before = _; part = t .part; ends = last-ends (t .front) (t .part) (t .series) }
 
 -- A sequence has two items or more, and where one is left it is the first.
 pub record Passing (table : List ℕ) (top end left : ℕ) (before : List ℕ) (r : Node) : Type 0 where
@@ -137,18 +137,18 @@ module _ {table : List ℕ} {top : ℕ} {before : List ℕ} {r : Node} where
       → Passing table top n (left - 1) before r
   pass-more {end} {left} w h {n} s =
       let t = pass-turn w h in
-      rw (s .by _ (t .part) (last-ends (t .front) (t .part) (t .row)))
+      rw (s .by _ (t .part) (last-ends (t .front) (t .part) (t .series)))
       (record { sequence = w .sequence; some = omega arith; walk = t .walk })
 
   pub pass-last : {end left : ℕ} → Passing table top end left before r → left ≤ 1 → Ends table end before (firstItem r)
-  pass-last {end} {left} w h = go (w .walk .rest) (w .walk .split) (w .walk .row)
+  pass-last {end} {left} w h = go (w .walk .rest) (w .walk .split) (w .walk .series)
     where
-      go : (rest : List Node) → inner r ≡ rest ++ w .walk .more → Row table end left before rest → Ends table end before
+      go : (rest : List Node) → inner r ≡ rest ++ w .walk .more → Series table end left before rest → Ends table end before
           (firstItem r)
-      go [] e row = absurd (omega (arith, row .counted, w .some))
-      go (q ∷ []) e row =
-          subst (Ends table end before) (first-of r q (w .walk .more) (w .sequence) e) (rw append-nil at (last-ends [] q row))
-      go (q ∷ p ∷ l) e row = absurd (omega (arith, row .counted))
+      go [] e series = absurd (omega (arith, series .counted, w .some))
+      go (q ∷ []) e series =
+          subst (Ends table end before) (first-of r q (w .walk .more) (w .sequence) e) (rw append-nil at (last-ends [] q series))
+      go (q ∷ p ∷ l) e series = absurd (omega (arith, series .counted))
 
 -- T8: two parts begin alike if their first items are the same byte set.
 abbrev sameSet : Option (List ℕ) → Node → Bool

@@ -1,4 +1,4 @@
--- The last part of a row, and walks over a row in a loop's words. Assumes nothing.
+-- The last part of a series, and walks over a series in a loop's words. Assumes nothing.
 use mathlib.Core.Path.{_≡_, refl, sym, ap, _∙_}
 use mathlib.Core.Bool.{Bool, true, false, cond, not, _||_, or-true, or-false}
 use mathlib.Core.Option.{Option, none, some}
@@ -15,7 +15,7 @@ use Rattle.table.specs.Laws.{inner, inner-count, long}
 use Rattle.table.specs.Roots.{stands-long}
 use Rattle.tidying_laws.specs.Alternatives.{past}
 use Rattle.tidying_laws.specs.Equal.{same}
-use Rattle.tidying_fitting.specs.Parts.{Ends, Row, SomePart, SomeRow, Tells, TellsLast, TellsBoth}
+use Rattle.tidying_fitting.specs.Parts.{Ends, Series, SomePart, SomeSeries, Tells, TellsLast, TellsBoth}
 use Rattle.tidying_fitting.specs.Parts.{room, inside, last-ends, shorter, some-last}
 use Rattle.tidying_fitting.specs.Words.{ownOf, startOf}
 use Rattle.tidying_fitting.specs.Marks.{alike, follows, any-leftmost}
@@ -24,16 +24,16 @@ use Rattle.tidying_fitting.specs.Fitting.{isSome}
 use Rattle.tidying_fitting.specs.Places.{Split, Test, leftmost, endOf, Walk, begin, turn, over, past-more}
 use Rattle.tidying_fitting.specs.declared.Record.{Record}
 
--- The last part of a row, and the one before it.
+-- The last part of a series, and the one before it.
 pub last-told : {A : Type 0} {a : A} {table : List ℕ} {top : ℕ} (items : ℕ) (f : Node → A) → Tells a table top f
     → TellsLast a table top items (λ front q. f q)
-last-told items f t = record { by = λ before front q row. t .by _ q (last-ends front q row) }
+last-told items f t = record { by = λ before front q series. t .by _ q (last-ends front q series) }
 
-pub last-asked : {table : List ℕ} {top items : ℕ} → SomeRow table top items → SomePart table top
-last-asked s = record { before = _; part = s .last; ends = last-ends (s .front) (s .last) (s .row) }
+pub last-asked : {table : List ℕ} {top items : ℕ} → SomeSeries table top items → SomePart table top
+last-asked s = record { before = _; part = s .last; ends = last-ends (s .front) (s .last) (s .series) }
 
-pub row-some : {table : List ℕ} {top items : ℕ} → SomeRow table top items → 0 < items
-row-some s = omega (arith, s .row .counted, length-append (s .front) (s .last ∷ []))
+pub series-some : {table : List ℕ} {top items : ℕ} → SomeSeries table top items → 0 < items
+series-some s = omega (arith, s .series .counted, length-append (s .front) (s .last ∷ []))
 
 -- The part before the last one ends where that one starts.
 record Before (table : List ℕ) (n : ℕ) (before : List ℕ) (front : List Node) : Type 0 where
@@ -44,18 +44,21 @@ record Before (table : List ℕ) (n : ℕ) (before : List ℕ) (front : List Nod
 
 module _ {table : List ℕ} {top items : ℕ} where
   pub alone-told : items ≤ 1 → TellsLast false table top items (λ front q. follows (past front []) q)
-  alone-told h = record { by = λ before front q row. go front q (omega (arith, row .counted, length-append front (q ∷ []))) }
+  alone-told h = record {
+    by = λ before front q series. go front q (omega (arith, series .counted, length-append front (q ∷ [])));
+  }
     where
       go : (front : List Node) (q : Node) → length front ≤ 0 → false ≡ follows (past front []) q
       go [] q h = refl
       go (r ∷ front) q h = absurd (omega arith)
 
   before-last : {n : ℕ} → 1 < items → Tells n table top (startOf top) → (before : List ℕ) (front : List Node) (q : Node)
-      → Row table top items before (front ++ (q ∷ [])) → Before table n before front
-  before-last {n} h t before front q row =
-      let k = some-last front (omega (arith, row .counted, length-append front (q ∷ []))) in
-      let here : n ≡ top - recordCount q = t .by _ q (last-ends front q row) in
-      let short : Row table n (items - 1) before (k .front ++ (k .last ∷ [])) = rw (here, ← k .split) (shorter front q row) in
+      → Series table top items before (front ++ (q ∷ [])) → Before table n before front
+  before-last {n} h t before front q series =
+      let k = some-last front (omega (arith, series .counted, length-append front (q ∷ []))) in
+      let here : n ≡ top - recordCount q = t .by _ q (last-ends front q series) in
+      let short : Series table n (items - 1) before (k .front ++ (k .last ∷ []))
+      = rw (here, ← k .split) (shorter front q series) in
       record {
         others = k .front;
         part = k .last;
@@ -63,16 +66,17 @@ module _ {table : List ℕ} {top items : ℕ} where
         seen = ap (λ x. past x []) (k .split) ∙ past-more (k .front) [] (k .last);
       }
 
-  pub before-asked : {n : ℕ} → 1 < items → Tells n table top (startOf top) → SomeRow table top items → SomePart table n
+  pub before-asked : {n : ℕ} → 1 < items → Tells n table top (startOf top) → SomeSeries table top items → SomePart table n
   before-asked h t s =
-      let k = before-last h t (s .before) (s .front) (s .last) (s .row) in record { before = _; part = k .part; ends = k .ends }
+      let k = before-last h t (s .before) (s .front) (s .last) (s .series) in
+      record { before = _; part = k .part; ends = k .ends }
 
   pub follows-told : {n : ℕ} → 1 < items → Tells n table top (startOf top) → {b : Bool} → TellsBoth b table n top alike
       → TellsLast b table top items (λ front q. follows (past front []) q)
   follows-told h t u = record {
-    by = λ before front q row.
-        let k = before-last h t before front q row in
-        rw (k .seen) (u .by _ _ (k .part) q (k .ends) (last-ends front q row));
+    by = λ before front q series.
+        let k = before-last h t before front q series in
+        rw (k .seen) (u .by _ _ (k .part) q (k .ends) (last-ends front q series));
   }
 
 -- What a walk found is not 0 exactly if there is a part that passes.
@@ -97,18 +101,19 @@ any-append p (r ∷ l) m = ap (λ b. p r || b) (any-append p l m) ∙ sym (or-as
     or-assoc true b c = refl
     or-assoc false b c = refl
 
--- A walk over a row, in the loop's words: its first state, what a turn needs and gives, and its end.
+-- A walk over a series, in the loop's words: its first state, what a turn needs and gives, and its end.
 module _ {test : Test} {l : List Node} {table : List ℕ} {end left : ℕ} {before : List ℕ} {found : ℕ}
     (w : Walk test l table end left before found) where
-  pub row-asked : 0 < left → SomeRow table end left
-  row-asked h = let t = turn w h in record { before = before; front = t .front; last = t .part; row = t .row }
+  pub series-asked : 0 < left → SomeSeries table end left
+  series-asked h = let t = turn w h in record { before = before; front = t .front; last = t .part; series = t .series }
 
   pub walk-more : 0 < left → {b : Bool} → TellsLast b table end left (λ front q. test (past front []) q) → {n : ℕ} → Tells n
       table end (startOf end)
       → Walk test l table n (left - 1) before (cond b end found)
   walk-more h {b} u {n} s =
       let t = turn w h in
-      rw (u .by before (t .front) (t .part) (t .row), s .by _ (t .part) (last-ends (t .front) (t .part) (t .row))) (t .walk)
+      let here = last-ends (t .front) (t .part) (t .series) in
+      rw (u .by before (t .front) (t .part) (t .series), s .by _ (t .part) here) (t .walk)
 
 pub walk-first : (test : Test) {table : List ℕ} {top : ℕ} {before : List ℕ} {r : Node} → Ends table top before r →
     {o : Record} → Tells o table top ownOf
@@ -116,14 +121,14 @@ pub walk-first : (test : Test) {table : List ℕ} {top : ℕ} {before : List ℕ
 walk-first test {before = before} {r = r} p {o} t = let own : o ≡ ownOf r = t .by before r p in rw own (begin test (inside p))
 
 -- It ends where the part starts.
-start-of : {table : List ℕ} {top end : ℕ} {before : List ℕ} {r : Node} → Ends table top before r → Row table end 0 before [] →
+start-of : {table : List ℕ} {top end : ℕ} {before : List ℕ} {r : Node} → Ends table top before r → Series table end 0 before [] →
     end ≡ top - recordCount r
-start-of {before = before} {r = r} p row = omega (
+start-of {before = before} {r = r} p series = omega (
   arith,
   stands-long (p .stands),
   length-append before (records r),
   long r (p .sound .proper),
-  stands-long (row .stands),
+  stands-long (series .stands),
   length-append before [],
 )
 
@@ -147,15 +152,15 @@ walk-any p {l} {end = end} {found = found} w h =
     (any p (w .rest))
 
 module _ {table : List ℕ} {top items : ℕ} {before : List ℕ} (front : List Node) (q : Node)
-    (row : Row table top items before (front ++ (q ∷ []))) where
+    (series : Series table top items before (front ++ (q ∷ []))) where
   pub repeat-first : {n : ℕ} → Tells n table top (startOf top) → Walk (equals q) front table n (items - 1) before 0
-  repeat-first t = rw (t .by _ q (last-ends front q row)) (begin (equals q) (shorter front q row))
+  repeat-first t = rw (t .by _ q (last-ends front q series)) (begin (equals q) (shorter front q series))
 
   module _ {end left : ℕ} (w : Walk (equals q) front table end left before 0) where
     same-told : 0 < left → {b : Bool} → TellsBoth b table top end same → TellsLast b table end left
         (λ front p. equals q (past front []) p)
     same-told h u = record {
-      by = λ before′ front′ p row′. u .by _ _ q p (last-ends front q row) (last-ends front′ p row′);
+      by = λ before′ front′ p series′. u .by _ _ q p (last-ends front q series) (last-ends front′ p series′);
     }
 
     pub repeat-more : 0 < left → {b : Bool} → TellsBoth b table top end same → b ≡ false → {n : ℕ} → Tells n table end
@@ -166,8 +171,8 @@ module _ {table : List ℕ} {top items : ℕ} {before : List ℕ} (front : List 
     pub repeat-found : 0 < left → {b : Bool} → TellsBoth b table top end same → b ≡ true → true ≡ any (same q) (past front [])
     repeat-found h {b} u e =
         let t = turn w h in
-        let here = last-ends (t .front) (t .part) (t .row) in
-        let hit : same q (t .part) ≡ true = sym (u .by _ _ q (t .part) (last-ends front q row) here) ∙ e in
+        let here = last-ends (t .front) (t .part) (t .series) in
+        let hit : same q (t .part) ≡ true = sym (u .by _ _ q (t .part) (last-ends front q series) here) ∙ e in
         let some-here = room here in
         let there : any (same q) front ≡ true = walk-any (same q) (rw hit at (t .walk))
         (omega (arith, some-here .some, some-here .few)) in

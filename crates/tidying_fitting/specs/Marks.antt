@@ -1,4 +1,4 @@
--- T1, T6, T7 and T8 look for a part of a row: what each looks for, and that the law fits exactly if there is one.
+-- T1, T6, T7 and T8 look for a part of a series: what each looks for, and that the law fits exactly if there is one.
 use mathlib.Core.Path.{_≡_, refl, sym, ap, _∙_}
 use mathlib.Core.Bool.{Bool, true, false, cond, _&&_, _||_, or-false, false≢true}
 use mathlib.Core.Option.{Option, none, some, Option·map, Option·none-ne-some, Option·some-injective}
@@ -160,7 +160,7 @@ share-leftmost seen r (q ∷ l) =
     ∙ rw (shared-two (firstSet (parts sequence r)) r q l refl, share-leftmost (r ∷ seen) q l)
     (sym (leftmost-more follows (r ∷ seen) q l))
 
--- A row of a kind has two parts or more, so that a law for its parts looks at all of them.
+-- A series of a kind has two parts or more, so that a law for its parts looks at all of them.
 two-parts : {A : Type 0} (k : Kind) (f : List Node → Option A) (r q : Node) → two f (r ∷ parts k q) ≡ f (r ∷ parts k q)
 two-parts k f r q = by-parts k (λ q l. two f (r ∷ l) ≡ f (r ∷ l)) (λ q n. refl) (λ p q l e. refl) q
 

@@ -1,4 +1,4 @@
--- Parts whose records stand in a table, and rows of them: how a row is walked from its last part back.
+-- Parts whose records stand in a table, and series of them: how a series is walked from its last part back.
 use mathlib.Core.Path.{_≡_, refl, sym, ap, _∙_}
 use mathlib.Core.List.{List, [], _∷_, _++_, append-assoc, append-nil}
 use Prim.Native.Nat.{ℕ, _+_, _-_, _*_, _≤_, _<_}
@@ -58,29 +58,29 @@ pub record Ends (table : List ℕ) (top : ℕ) (before : List ℕ) (r : Node) : 
   pub sound : Sound r
 
 -- The records of sound parts end there, as many as `items` says.
-pub record Row (table : List ℕ) (top items : ℕ) (before : List ℕ) (l : List Node) : Type 0 where
+pub record Series (table : List ℕ) (top items : ℕ) (before : List ℕ) (l : List Node) : Type 0 where
   pub stands : Stands table top (before ++ concatMap records l)
   pub counted : items ≡ length l
   pub sound : Each Sound l
 
--- What is asked: that there is such a part, or such a row of one part or more.
+-- What is asked: that there is such a part, or such a series of one part or more.
 pub record SomePart (table : List ℕ) (top : ℕ) : Type 0 where
   pub before : List ℕ
   pub part : Node
   pub ends : Ends table top before part
 
-pub record SomeRow (table : List ℕ) (top items : ℕ) : Type 0 where
+pub record SomeSeries (table : List ℕ) (top items : ℕ) : Type 0 where
   pub before : List ℕ
   pub front : List Node
   pub last : Node
-  pub row : Row table top items before (front ++ (last ∷ []))
+  pub series : Series table top items before (front ++ (last ∷ []))
 
--- What is answered: a function of the part, whatever the part is; or of the last part of a row and those before it.
+-- What is answered: a function of the part, whatever the part is; or of the last part of a series and those before it.
 pub record Tells {A : Type 0} (a : A) (table : List ℕ) (top : ℕ) (f : Node → A) : Type 0 where
   pub by : (before : List ℕ) (r : Node) → Ends table top before r → a ≡ f r
 
 pub record TellsLast {A : Type 0} (a : A) (table : List ℕ) (top items : ℕ) (f : List Node → Node → A) : Type 0 where
-  pub by : (before : List ℕ) (front : List Node) (q : Node) → Row table top items before (front ++ (q ∷ [])) → a ≡ f front q
+  pub by : (before : List ℕ) (front : List Node) (q : Node) → Series table top items before (front ++ (q ∷ [])) → a ≡ f front q
 
 -- Or a function of two parts.
 pub record TellsBoth {A : Type 0} (a : A) (table : List ℕ) (one other : ℕ) (f : Node → Node → A) : Type 0 where
@@ -133,17 +133,17 @@ room {before = before} {r = r} h = record {
 
 -- Below a part's own record stand the parts inside it.
 pub inside : {table : List ℕ} {top : ℕ} {before : List ℕ} {r : Node} → Ends table top before r
-    → Row table (top - 1) (length (inner r)) before (inner r)
+    → Series table (top - 1) (length (inner r)) before (inner r)
 inside {before = before} {r = r} h =
     record { stands = parts-stand before r (h .sound .proper) (h .stands); counted = refl; sound = sound-inner r (h .sound) }
 
--- The last part of a row ends where the row does, and the row goes on below it.
+-- The last part of a series ends where the series does, and the series goes on below it.
 module _ {table : List ℕ} {top items : ℕ} {before : List ℕ} (front : List Node) (q : Node)
-    (row : Row table top items before (front ++ (q ∷ []))) where
+    (series : Series table top items before (front ++ (q ∷ []))) where
   pub last-ends : Ends table top (before ++ concatMap records front) q
   last-ends = record {
-    stands = rw words at (row .stands);
-    sound = each-right Sound front (q ∷ []) (row .sound) .0;
+    stands = rw words at (series .stands);
+    sound = each-right Sound front (q ∷ []) (series .sound) .0;
   }
     where
       words : before ++ concatMap records (front ++ (q ∷ [])) ≡ before ++ concatMap records front ++ records q
@@ -151,10 +151,10 @@ module _ {table : List ℕ} {top items : ℕ} {before : List ℕ} (front : List 
           ap (λ x. before ++ x) (records-append front (q ∷ []) ∙ ap (λ x. concatMap records front ++ x) (append-nil (records q)))
           ∙ sym (append-assoc before (concatMap records front) (records q))
 
-  pub shorter : Row table (top - recordCount q) (items - 1) before front
+  pub shorter : Series table (top - recordCount q) (items - 1) before front
   shorter = record {
     stands = stands-under (before ++ concatMap records front) (records q) (recordCount q) (last-ends .stands)
         (long q (last-ends .sound .proper));
-    counted = omega (arith, row .counted, length-append front (q ∷ []));
-    sound = each-left Sound front (q ∷ []) (row .sound);
+    counted = omega (arith, series .counted, length-append front (q ∷ []));
+    sound = each-left Sound front (q ∷ []) (series .sound);
   }

@@ -1,4 +1,4 @@
--- The leftmost part of a row that passes a test: T1, T6, T7 and T8 fit where there is one. A row is walked from its
+-- The leftmost part of a series that passes a test: T1, T6, T7 and T8 fit where there is one. A series is walked from its
 -- last part back.
 use mathlib.Core.Path.{_≡_, refl, sym, ap, _∙_}
 use mathlib.Core.Bool.{Bool, true, false, cond}
@@ -12,7 +12,7 @@ use Rattle.meaning.specs.Node.{Node}
 use Rattle.table.specs.Table.{recordCount}
 use Rattle.table.specs.Laws.{countAll}
 use Rattle.tidying_laws.specs.Alternatives.{past}
-use Rattle.tidying_fitting.specs.Parts.{Row, some-last, last-ends, shorter, room}
+use Rattle.tidying_fitting.specs.Parts.{Series, some-last, last-ends, shorter, room}
 
 -- A list taken apart at one of its parts.
 pub record Split : Type 0 where
@@ -42,7 +42,7 @@ pub record Walk (test : Test) (l : List Node) (table : List ℕ) (end left : ℕ
   pub rest : List Node
   pub more : List Node
   pub split : l ≡ rest ++ more
-  pub row : Row table end left before rest
+  pub series : Series table end left before rest
   pub best : found ≡ endOf end (leftmost test (past rest []) more)
 
 pub past-more : (front seen : List Node) (q : Node) → past (front ++ (q ∷ [])) seen ≡ q ∷ past front seen
@@ -63,50 +63,51 @@ one-more test seen q more end h = go (test seen q) (leftmost test (q ∷ seen) m
     go false none = refl
     go false (some s) = omega arith
 
--- The walk begins with the whole row,
-pub begin : (test : Test) {l : List Node} {table : List ℕ} {end left : ℕ} {before : List ℕ} → Row table end left before l
+-- The walk begins with the whole series,
+pub begin : (test : Test) {l : List Node} {table : List ℕ} {end left : ℕ} {before : List ℕ} → Series table end left before l
     → Walk test l table end left before 0
 unfolding leftmost
-begin test {l} row = record { rest = l; more = []; split = sym (append-nil l); row = row; best = refl }
+begin test {l} series = record { rest = l; more = []; split = sym (append-nil l); series = series; best = refl }
 
 -- a turn of it takes one part,
 pub record Turn (test : Test) (l : List Node) (table : List ℕ) (end left : ℕ) (before : List ℕ) (found : ℕ) : Type 0 where
   pub front : List Node
   pub part : Node
-  pub row : Row table end left before (front ++ (part ∷ []))
+  pub series : Series table end left before (front ++ (part ∷ []))
   pub walk : Walk test l table (end - recordCount part) (left - 1) before (cond (test (past front []) part) end found)
 
 pub turn : {test : Test} {l : List Node} {table : List ℕ} {end left : ℕ} {before : List ℕ} {found : ℕ}
     → Walk test l table end left before found → 0 < left → Turn test l table end left before found
 turn {test} {l} {table} {end} {left} {before} {found} w h =
-    let k = some-last (w .rest) (omega (arith, w .row .counted)) in
-    let row : Row table end left before (k .front ++ (k .last ∷ [])) = rw (k .split) at (w .row) in
+    let k = some-last (w .rest) (omega (arith, w .series .counted)) in
+    let series : Series table end left before (k .front ++ (k .last ∷ [])) = rw (k .split) at (w .series) in
     let seen : past (w .rest) [] ≡ k .last ∷ past (k .front) [] = ap (λ x. past x []) (k .split) ∙ past-more (k .front) []
     (k .last) in
     record {
       front = k .front;
       part = k .last;
-      row = row;
+      series = series;
       walk = record {
         rest = k .front;
         more = k .last ∷ w .more;
         split = w .split ∙ ap (λ x. x ++ w .more) (k .split) ∙ append-assoc (k .front) (k .last ∷ []) (w .more);
-        row = shorter (k .front) (k .last) row;
+        series = shorter (k .front) (k .last) series;
         best = ap (cond (test (past (k .front) []) (k .last)) end)
             (w .best ∙ ap (λ s. endOf end (leftmost test s (w .more))) seen)
-            ∙ sym (one-more test (past (k .front) []) (k .last) (w .more) end (room (last-ends (k .front) (k .last) row) .few));
+            ∙ sym (one-more test (past (k .front) []) (k .last) (w .more) end
+            (room (last-ends (k .front) (k .last) series) .few));
       };
     }
 
 -- and it ends where no part is left.
 pub over : {test : Test} {l : List Node} {table : List ℕ} {end left : ℕ} {before : List ℕ} {found : ℕ}
     → Walk test l table end left before found → left ≤ 0
-    → (found ≡ endOf end (leftmost test [] l)) × Row table end 0 before []
-over {test} {l} {table} {end} {left} {before} {found} w h = go (w .rest) (omega (arith, w .row .counted)) (w .split) (w .row)
-    (w .best)
+    → (found ≡ endOf end (leftmost test [] l)) × Series table end 0 before []
+over {test} {l} {table} {end} {left} {before} {found} w h =
+    go (w .rest) (omega (arith, w .series .counted)) (w .split) (w .series) (w .best)
   where
-    go : (rest : List Node) → length rest ≤ 0 → l ≡ rest ++ w .more → Row table end left before rest
+    go : (rest : List Node) → length rest ≤ 0 → l ≡ rest ++ w .more → Series table end left before rest
         → found ≡ endOf end (leftmost test (past rest []) (w .more))
-        → (found ≡ endOf end (leftmost test [] l)) × Row table end 0 before []
-    go [] h e row best = (best ∙ ap (λ x. endOf end (leftmost test [] x)) (sym e), rw (row .counted) at row)
-    go (r ∷ rest) h e row best = absurd (not-suc-le-zero h)
+        → (found ≡ endOf end (leftmost test [] l)) × Series table end 0 before []
+    go [] h e series best = (best ∙ ap (λ x. endOf end (leftmost test [] x)) (sym e), rw (series .counted) at series)
+    go (r ∷ rest) h e series best = absurd (not-suc-le-zero h)

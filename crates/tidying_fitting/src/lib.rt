@@ -39,8 +39,8 @@ pub struct Record {
     pub lazy: u32,
 }
 
-// What a law looks for among the parts of a row: T1 an empty item, T6 an alternative without groups that equals an earlier one,
-// T7 a set with no byte, T8 an alternative whose first item is the byte set that its left neighbour begins with.
+// What a law looks for among the parts of a series: T1 an empty item, T6 an alternative without groups that equals an earlier
+// one, T7 a set with no byte, T8 an alternative whose first item is the byte set that its left neighbour begins with.
 pub enum Mark {
     Empty,
     Equal,
@@ -64,7 +64,7 @@ pub fn own(table: &[u32], top: usize) -> Record
     }
 }
 
-// The record number at which the part that ends at `top` starts: there the part before it in a row ends.
+// The record number at which the part that ends at `top` starts: there the part before it in a series ends.
 pub fn start(table: &[u32], top: usize) -> usize
     requires { ⌜ SomePart (now table) top ⌝ }
     ensures { λ r. ⌜ Tells r (now (table .entry)) top (startOf top) ⌝ }

@@ -1,5 +1,5 @@
 // The laws for the items of a sequence and the alternatives of an alternation: T1 and T6 to T8. Each looks for a part in a
-// row, and the parts of a row are passed from the last one back: its own record says where the one before it ends.
+// series, and the parts of a series are passed from the last one back: its own record says where the one before it ends.
 use super::Mark;
 use super::last_words;
 use super::own;
@@ -16,7 +16,7 @@ ghost use Rattle.tidying_laws.specs.Equal.{same};
 ghost use Rattle.tidying_laws.specs.Laws.{isVoid, t1, t6, t7, t8};
 ghost use Rattle.tidying_laws.specs.Alternatives.{past};
 ghost use Rattle.tidying_fitting.specs.Fitting.{fits};
-ghost use Rattle.tidying_fitting.specs.Parts.{SomePart, SomeRow, Tells, TellsLast, TellsBoth, FirstEnds, Compares};
+ghost use Rattle.tidying_fitting.specs.Parts.{SomePart, SomeSeries, Tells, TellsLast, TellsBoth, FirstEnds, Compares};
 ghost use Rattle.tidying_fitting.specs.Marks.{marks, alike, goes, follows, repeats, markedEnd, hasMarked};
 
 // Whether a part is a byte set with no byte.
@@ -67,9 +67,9 @@ pub fn begins_alike(table: &[u32], one: usize, other: usize) -> bool
     sets::same(last_words(table, a), last_words(table, b))
 }
 
-// T8: whether the last part of a row begins as its left neighbour does.
+// T8: whether the last part of a series begins as its left neighbour does.
 fn follows(table: &[u32], top: usize, items: u32) -> bool
-    requires { ⌜ SomeRow (now table) top items ⌝ }
+    requires { ⌜ SomeSeries (now table) top items ⌝ }
     ensures { λ r. ⌜ TellsLast r (now (table .entry)) top items (λ front q. follows (past front []) q) ⌝ }
 {
     if items <= 1 {
@@ -112,9 +112,9 @@ fn same_part(table: &[u32], one: usize, other: usize) -> bool
     )
 }
 
-// Whether the last part of a row equals an earlier one.
+// Whether the last part of a series equals an earlier one.
 fn repeats(table: &[u32], top: usize, items: u32) -> bool
-    requires { ⌜ SomeRow (now table) top items ⌝ }
+    requires { ⌜ SomeSeries (now table) top items ⌝ }
     ensures { λ r. ⌜ TellsLast r (now (table .entry)) top items (λ front q. repeats (past front []) q) ⌝ }
 {
     let mut end = start(table, top);
@@ -129,9 +129,9 @@ fn repeats(table: &[u32], top: usize, items: u32) -> bool
     false
 }
 
-// T6: whether the last part of a row has no group and equals an earlier one.
+// T6: whether the last part of a series has no group and equals an earlier one.
 fn goes(table: &[u32], top: usize, items: u32) -> bool
-    requires { ⌜ SomeRow (now table) top items ⌝ }
+    requires { ⌜ SomeSeries (now table) top items ⌝ }
     ensures { λ r. ⌜ TellsLast r (now (table .entry)) top items (λ front q. goes (past front []) q) ⌝ }
 {
     let part = own(table, top);
@@ -141,9 +141,9 @@ fn goes(table: &[u32], top: usize, items: u32) -> bool
     repeats(table, top, items)
 }
 
-// Whether the last part of a row is what a law looks for.
+// Whether the last part of a series is what a law looks for.
 fn marked(table: &[u32], top: usize, items: u32, mark: Mark) -> bool
-    requires { ⌜ SomeRow (now table) top items ⌝ }
+    requires { ⌜ SomeSeries (now table) top items ⌝ }
     ensures { λ r. ⌜ TellsLast r (now (table .entry)) top items (λ front q. marks mark (past front []) q) ⌝ }
 {
     match mark {

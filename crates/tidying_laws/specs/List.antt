@@ -1,5 +1,5 @@
--- The tidier's laws as one list, in the order of their numbers: the one place that names them all. An entry carries its proofs, so
--- that a law more is an entry more; what the tidier applies and what its promises say is read off the list, by `laws` and `words`.
+-- The tidier's laws as one list, in the order of their numbers. An entry carries its proofs, so that one law more is one entry
+-- more; what the tidier applies (`laws`) and what its promises speak of (`words`) are read off the list.
 use mathlib.Core.Option.{Option}
 use mathlib.Core.List.{List, [], _∷_, map}
 use Rattle.meaning.specs.Node.{Node}

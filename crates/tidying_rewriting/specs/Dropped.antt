@@ -14,7 +14,7 @@ use Rattle.table.specs.Stands.{Stands}
 use Rattle.table.specs.Roots.{stands-under}
 use Rattle.tidying_laws.specs.Void.{void}
 use Rattle.tidying_laws.specs.Laws.{t7}
-use Rattle.tidying_fitting.specs.Parts.{Ends, Row, Sound, Tells, SomePart, inside}
+use Rattle.tidying_fitting.specs.Parts.{Ends, Series, Sound, Tells, SomePart, inside}
 use Rattle.tidying_fitting.specs.Words.{startOf}
 use Rattle.tidying_fitting.specs.Places.{endOf}
 use Rattle.tidying_fitting.specs.Marks.{without, markedEnd}
@@ -28,7 +28,7 @@ use Rattle.tidying_rewriting.specs.Rewriting.{some-wide}
 use Rattle.tidying_rewriting.specs.Rewriting.{within, own-word}
 use Rattle.tidying_rewriting.specs.Own.{own-said, inside-here}
 use Rattle.tidying_rewriting.specs.Frames.{Cut}
-use Rattle.tidying_rewriting.specs.Rows.{skeletons-count, skeletons-append, Rejoins, Rejoining, joined}
+use Rattle.tidying_rewriting.specs.Series.{skeletons-count, skeletons-append, Rejoins, Rejoining, joined}
 use Rattle.tidying_rewriting.specs.Dropping.{dropping, Drop, drop-of, void-alternation, void-sequence}
 
 pub each-proper : (l : List Node) → Each Sound l → Each Proper l
@@ -39,17 +39,17 @@ each-proper (r ∷ l) h = (h .0 .proper, each-proper l (h .1))
 module _ {table : List ℕ} {n top : ℕ} {before : List ℕ} {x : Node} {l m : List Token}
     (p : Placed table n top before x l m)
     (front : List Node) (q : Node) (more : List Node) (split : inner x ≡ front ++ (q ∷ more)) where
-  row : Row table (top - 1) (length (front ++ (q ∷ more))) before (front ++ (q ∷ more))
-  row = rw split at (inside (p .ends))
+  series : Series table (top - 1) (length (front ++ (q ∷ more))) before (front ++ (q ∷ more))
+  series = rw split at (inside (p .ends))
 
   sound : Each Sound (q ∷ more)
-  sound = each-right Sound front (q ∷ more) (row .sound)
+  sound = each-right Sound front (q ∷ more) (series .sound)
 
   pub inner-tokens : concatMap skeleton (inner x) ≡ concatMap skeleton front ++ (skeleton q ++ concatMap skeleton more)
   inner-tokens = ap (concatMap skeleton) split ∙ skeletons-append front (q ∷ more)
 
   pub front-count : length (concatMap skeleton front) ≡ countAll front
-  front-count = skeletons-count front (each-proper front (each-left Sound front (q ∷ more) (row .sound)))
+  front-count = skeletons-count front (each-proper front (each-left Sound front (q ∷ more) (series .sound)))
 
   pub part-count : length (skeleton q) ≡ recordCount q
   part-count = skeleton-count q (sound .0 .proper)
@@ -86,7 +86,7 @@ module _ {table : List ℕ} {n top : ℕ} {before : List ℕ} {x : Node} {l m : 
 
       under : Stands table (top - 1 - countAll more) (first ++ records q)
       under = stands-under (first ++ records q) (concatMap records more) (countAll more)
-          (rw words at (row .stands)) (long-all more proper)
+          (rw words at (series .stands)) (long-all more proper)
 
 -- The numbers of records at which the alternative that goes ends and starts, and how many alternatives there are.
 pub record DropAt (mark : Mark) (n top : ℕ) (x y : Node) (l : List Token) (end from items : ℕ) : Type 0 where
@@ -147,7 +147,7 @@ module _ (mark : Mark) {table : List ℕ} {n top : ℕ} {before : List ℕ} {x y
         some = omega (arith, length-append (drop .at .front) (drop .at .part ∷ drop .at .more));
       }
 
--- Without it the others are left, and the row is rejoined over them.
+-- Without it the others are left, and the series is rejoined over them.
 each-without : (k : Kind) (a : List Node) (q : Node) (b : List Node) → Each (Not k) (a ++ (q ∷ b)) → Each (Not k) (a ++ b)
 each-without k a q b h = each-append (Not k) a b (each-left (Not k) a (q ∷ b) h) (each-right (Not k) a (q ∷ b) h .1)
 

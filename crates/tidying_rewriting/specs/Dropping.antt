@@ -19,7 +19,7 @@ use Rattle.tidying_fitting.specs.declared.Mark.{Mark}
 use Rattle.tidying_fitting.specs.declared.Mark.the-variants.{Equal, Void}
 use Rattle.tidying_shapes.specs.Skeleton.{token, rowToken}
 use Rattle.tidying_rewriting.specs.Rewriting.{Rule, Narrower, ok-same, narrower-same, ok-some}
-use Rattle.tidying_rewriting.specs.Rows.{RowOf, row-of}
+use Rattle.tidying_rewriting.specs.Series.{SeriesOf, series-of}
 
 -- The law that drops the leftmost alternative that passes a test.
 abbrev withoutMarked : Mark → List Node → Option Node
@@ -106,16 +106,16 @@ drop-of mark x y e = go (leftmost (marks mark) [] (inner x)) refl
     rest : Option Split → Option Node
     rest = Option·map (λ s. join alternation (without s))
 
-    row : RowOf alternation (withoutMarked mark) x y
-    row = ok-some (RowOf alternation (withoutMarked mark) x) e (row-of alternation (withoutMarked mark) x)
+    series : SeriesOf alternation (withoutMarked mark) x y
+    series = ok-some (SeriesOf alternation (withoutMarked mark) x) e (series-of alternation (withoutMarked mark) x)
 
     go : (o : Option Split) → leftmost (marks mark) [] (inner x) ≡ o → Drop mark x y
-    go none f = absurd (Option·none-ne-some y (sym (ap rest f) ∙ row .fits))
+    go none f = absurd (Option·none-ne-some y (sym (ap rest f) ∙ series .fits))
     go (some s) f = record {
       at = s;
       found = f;
       split = subst (λ (o : Option Split). Ok Parts o) f (leftmost-parts (marks mark) [] (inner x));
-      result = Option·some-injective _ _ (sym (ap rest f) ∙ row .fits);
-      says = row .says;
-      all = row .all;
+      result = Option·some-injective _ _ (sym (ap rest f) ∙ series .fits);
+      says = series .says;
+      all = series .all;
     }

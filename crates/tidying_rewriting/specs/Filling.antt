@@ -24,7 +24,7 @@ use Rattle.tidying_shapes.specs.Tokens.{Says}
 use Rattle.tidying_shapes.specs.Laws.{says-length}
 use Rattle.tidying_rewriting.specs.Rewriting.{Placed, Fitting, SomeFitting, Rewrites, ok-some, count}
 use Rattle.tidying_rewriting.specs.Frames.{Cut}
-use Rattle.tidying_rewriting.specs.Rows.{RowOf, row-of, Rejoins, Rejoining, joined}
+use Rattle.tidying_rewriting.specs.Series.{SeriesOf, series-of, Rejoins, Rejoining, joined}
 use Rattle.tidying_rewriting.specs.Walks.{Walked, walk-start, Turned, turned, last-word}
 
 -- Of the items behind those still to be walked the filled ones are left, `kept` of them.
@@ -51,7 +51,7 @@ module _ {table : List ℕ} {n : ℕ} {before : List ℕ} {x : Node} {l m : List
   -- and then an empty item, which is one record, goes, and any other stays.
   module _ {end left kept : ℕ} (f : Filling table n end left kept before x l m) (h : 0 < left) where
     last : Last (f .rest)
-    last = some-last (f .rest) (omega (arith, f .walk .row .counted))
+    last = some-last (f .rest) (omega (arith, f .walk .series .counted))
 
     abbrev front : List Node
     front = last .front
@@ -121,7 +121,7 @@ module _ {table : List ℕ} {n : ℕ} {before : List ℕ} {x : Node} {l m : List
     pub item-few : {v : ℕ} → v ≡ getD table (recordWords * (end - 1) + 2) 0 → v ≤ end
     item-few r = let all = r ∙ last-word turn 2 (omega arith) in omega (arith, turn .few)
 
--- In the end the row is rejoined over the filled items.
+-- In the end the series is rejoined over the filled items.
 each-filled : (l : List Node) → Each (Not sequence) l → Each (Not sequence) (filled l)
 unfolding filled
 each-filled [] h = tt
@@ -131,17 +131,17 @@ each-filled (r ∷ l) h = go (isEmpty r) (each-filled l (h .1))
     go true g = g
     go false g = (h .0, g)
 
-abbrev filledRow : List Node → Option Node
-filledRow l = when (any isEmpty l) (join sequence (filled l))
+abbrev filledSeries : List Node → Option Node
+filledSeries l = when (any isEmpty l) (join sequence (filled l))
 
 module _ {table₀ : List ℕ} {n₀ top : ℕ} {before : List ℕ} {x y : Node} {l m : List Token}
     (fit : Fitting t1 table₀ n₀ top before x y l m) where
-  row : RowOf sequence filledRow x y
-  row = ok-some (RowOf sequence filledRow x) (fit .fits) (row-of sequence filledRow x)
+  series : SeriesOf sequence filledSeries x y
+  series = ok-some (SeriesOf sequence filledSeries x) (fit .fits) (series-of sequence filledSeries x)
 
   pub fill-result : join sequence (filled (inner x)) ≡ y
   fill-result = let P : Node → Type 0 = λ y. join sequence (filled (inner x)) ≡ y in
-      ok-some P (row .fits) (ok-when P (any isEmpty (inner x)) (join sequence (filled (inner x))) (λ t. refl))
+      ok-some P (series .fits) (ok-when P (any isEmpty (inner x)) (join sequence (filled (inner x))) (λ t. refl))
 
   pub filled-room : {table : List ℕ} {n end left kept : ℕ} → Filling table n end left kept before x l m
       → (n₀ < top + n) × (top + n - n₀ ≤ n) × (recordWords * n ≤ length table)
@@ -163,7 +163,7 @@ module _ {table₀ : List ℕ} {n₀ top : ℕ} {before : List ℕ} {x y : Node}
   pub filled-rejoining : {table : List ℕ} {n end left kept : ℕ} → left ≤ 0 → Filling table n end left kept before x l m
       → Rejoining table n (top + n - n₀) kept sequence (filled (inner x)) l m
   filled-rejoining {table} {n} {end} {left} {kept} z f =
-      go (f .rest) (f .split) (omega (arith, f .walk .row .counted)) (f .walk .says)
+      go (f .rest) (f .split) (omega (arith, f .walk .series .counted)) (f .walk .says)
     where
       go : (rest : List Node) → inner x ≡ rest ++ f .more → length rest ≤ 0
           → Says table n (l ++ (concatMap skeleton rest ++ (concatMap skeleton (filled (f .more)) ++ (token x ∷ m))))
@@ -173,7 +173,7 @@ module _ {table₀ : List ℕ} {n₀ top : ℕ} {before : List ℕ} {x y : Node}
           let some : List Token = concatMap skeleton (filled (inner x)) in
           let Said : List Node → Type 0 = λ ps. Says table n (l ++ (concatMap skeleton (filled ps) ++ (token x ∷ m))) in
           let said : Says table n (l ++ (some ++ (rowToken sequence (length (inner x)) ∷ m)))
-          = rw (← row .says) (subst Said (sym e) s) in
+          = rw (← series .says) (subst Said (sym e) s) in
           record {
             old = length (inner x);
             says = said;
@@ -186,7 +186,7 @@ module _ {table₀ : List ℕ} {n₀ top : ℕ} {before : List ℕ} {x y : Node}
               length-append some (rowToken sequence (length (inner x)) ∷ m),
             );
             counted = f .counted ∙ ap (λ ps. length (filled ps)) (sym e);
-            apart = each-filled (inner x) (rw (row .all) (parts-flat sequence x (fit .placed .flat)));
+            apart = each-filled (inner x) (rw (series .all) (parts-flat sequence x (fit .placed .flat)));
           }
 
 -- What the loop keeps, whatever the part is.

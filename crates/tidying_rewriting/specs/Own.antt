@@ -49,7 +49,8 @@ module _ {table : List ℕ} {n top : ℕ} {before : List ℕ} {x : Node} {l m : 
       k .says (n - gone) l (token x) m low (r .says l inside (token x ∷ m) low few own-said)
 
   -- Without its own record.
-  pub opened : {table₁ : List ℕ} → Removed table table₁ n (top - 1) 1 → Says table₁ (n - 1) (l ++ (concatMap skeleton (inner x) ++ m))
+  pub opened : {table₁ : List ℕ} → Removed table table₁ n (top - 1) 1
+      → Says table₁ (n - 1) (l ++ (concatMap skeleton (inner x) ++ m))
   opened r =
       let low : length (l ++ inside) ≡ top - 1 = omega (arith, inside-here, length-append l inside) in
       rw append-assoc at (r .says (l ++ inside) (token x ∷ []) m low refl (rw append-assoc own-said))

@@ -1,4 +1,4 @@
--- The parts of a row are walked from the last one back, and what stands behind them is edited: those still to be walked stay.
+-- The parts of a series are walked from the last one back, and what stands behind them is edited: those still to be walked stay.
 use mathlib.Core.Path.{_≡_, sym, ap, subst, _∙_}
 use mathlib.Core.List.{List, [], _∷_, _++_, append-assoc, append-nil}
 use Prim.Native.Nat.{ℕ, _+_, _-_, _*_, _≤_, _<_}
@@ -9,29 +9,29 @@ use Rattle.meaning.specs.Results.{concatMap}
 use Rattle.table.specs.Table.{recordWords, recordCount, recordOf, records}
 use Rattle.table.specs.Laws.{inner, kindOf, operandOf, lastOf}
 use Rattle.table.specs.Roots.{root-word}
-use Rattle.tidying_fitting.specs.Parts.{Ends, Row, last-ends, shorter, inside, room}
+use Rattle.tidying_fitting.specs.Parts.{Ends, Series, last-ends, shorter, inside, room}
 use Rattle.tidying_shapes.specs.Skeleton.{Token, token, skeleton}
 use Rattle.tidying_shapes.specs.Tokens.{Says}
 use Rattle.tidying_shapes.specs.Laws.{says-length}
 use Rattle.tidying_shapes.specs.Told.{skeleton-count}
 use Rattle.tidying_rewriting.specs.Rewriting.{Placed, own-word}
 use Rattle.tidying_rewriting.specs.Own.{own-said, inside-here}
-use Rattle.tidying_rewriting.specs.Rows.{skeletons-append}
+use Rattle.tidying_rewriting.specs.Series.{skeletons-append}
 
 -- The walk has come to record number `end`, with `left` parts to go, behind which stand some tokens.
 pub record Walked (table : List ℕ) (n end left : ℕ) (before : List ℕ) (rest : List Node) (l ts : List Token) : Type 0 where
-  pub row : Row table end left before rest
+  pub series : Series table end left before rest
   pub low : length l + length (concatMap skeleton rest) ≡ end
   pub says : Says table n (l ++ (concatMap skeleton rest ++ ts))
 
--- It begins below the row's own record.
+-- It begins below the series' own record.
 pub walk-start : {table : List ℕ} {n top w : ℕ} {before : List ℕ} {x : Node} {l m : List Token}
     → Placed table n top before x l m → w ≡ getD table (recordWords * (top - 1) + 3) 0
     → Walked table n (top - 1) w before (inner x) l (token x ∷ m)
 walk-start {table} {n} {top} {w} {before} {x} p e =
     let all : length (inner x) ≡ w = sym (e ∙ own-word p 3 (omega arith)) in
     record {
-      row = subst (λ (i : ℕ). Row table (top - 1) i before (inner x)) all (inside (p .ends));
+      series = subst (λ (i : ℕ). Series table (top - 1) i before (inner x)) all (inside (p .ends));
       low = omega (arith, inside-here p);
       says = own-said p;
     }
@@ -50,16 +50,16 @@ pub record Turned (table : List ℕ) (n end left : ℕ) (before : List ℕ) (fro
       → Says table′ n′ (l ++ (concatMap skeleton front ++ ts′))
       → Walked table′ n′ (end - recordCount part) (left - 1) before front l ts′
 
-row-kept : {table table′ : List ℕ} {end left : ℕ} {before : List ℕ} {rest : List Node} → Row table end left before rest
+series-kept : {table table′ : List ℕ} {end left : ℕ} {before : List ℕ} {rest : List Node} → Series table end left before rest
     → take (recordWords * end) table′ ≡ take (recordWords * end) table → recordWords * end ≤ length table′
-    → Row table′ end left before rest
-row-kept r e h =
+    → Series table′ end left before rest
+series-kept r e h =
     record { stands = record { below = e ∙ r .stands .below; room = h }; counted = r .counted; sound = r .sound }
 
 module _ {table : List ℕ} {n end left : ℕ} {before : List ℕ} (front : List Node) (q : Node) {l ts : List Token}
     (w : Walked table n end left before (front ++ (q ∷ [])) l ts) where
   ends : Ends table end (before ++ concatMap records front) q
-  ends = last-ends front q (w .row)
+  ends = last-ends front q (w .series)
 
   split : concatMap skeleton (front ++ (q ∷ [])) ≡ concatMap skeleton front ++ skeleton q
   split = skeletons-append front (q ∷ []) ∙ ap (λ x. concatMap skeleton front ++ x) (append-nil (skeleton q))
@@ -91,7 +91,7 @@ module _ {table : List ℕ} {n end left : ℕ} {before : List ℕ} (front : List
       w .low,
     );
     next = λ ts′ e s. record {
-      row = row-kept (shorter front q (w .row)) e (omega (
+      series = series-kept (shorter front q (w .series)) e (omega (
         arith,
         s .room,
         says-length s,

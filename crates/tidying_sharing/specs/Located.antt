@@ -10,7 +10,7 @@ use Rattle.meaning.specs.Results.{concatMap}
 use Rattle.table.specs.Table.{recordCount, records}
 use Rattle.table.specs.Laws.{inner, countAll, count-append, inner-count}
 use Rattle.tidying_laws.specs.Laws.{t8}
-use Rattle.tidying_fitting.specs.Parts.{Ends, Row, SomePart, Tells, inside, room}
+use Rattle.tidying_fitting.specs.Parts.{Ends, Series, SomePart, Tells, inside, room}
 use Rattle.tidying_fitting.specs.Words.{startOf}
 use Rattle.tidying_fitting.specs.Places.{endOf}
 use Rattle.tidying_fitting.specs.Marks.{markedEnd}
@@ -41,8 +41,8 @@ module _ {table : List ℕ} {top : ℕ} {before : List ℕ} {x y : Node} (s : Sh
   abbrev k : Shares x y
   k = shares-of x y (s .fits)
 
-  row : Row table (top - 1) (length (inner x)) before (k .front ++ (k .first ∷ k .second ∷ k .more))
-  row = subst (λ (l : List Node). Row table (top - 1) (length (inner x)) before l) (k .split) (inside (s .ends))
+  series : Series table (top - 1) (length (inner x)) before (k .front ++ (k .first ∷ k .second ∷ k .more))
+  series = subst (λ (l : List Node). Series table (top - 1) (length (inner x)) before l) (k .split) (inside (s .ends))
 
   -- The records of the part are those of its alternatives, and its own.
   all : recordCount x ≡ countAll (k .front) + (recordCount (k .first) + (recordCount (k .second) + countAll (k .more))) + 1
@@ -53,11 +53,11 @@ module _ {table : List ℕ} {top : ℕ} {before : List ℕ} {x y : Node} (s : Sh
 
   second-ends : Ends table (top - 1 - countAll (k .more)) under (k .second)
   second-ends = part-ends (k .front ++ (k .first ∷ [])) (k .second) (k .more)
-      (subst (λ (l : List Node). Row table (top - 1) (length (inner x)) before l)
-      (sym (append-assoc (k .front) (k .first ∷ []) (k .second ∷ k .more))) row)
+      (subst (λ (l : List Node). Series table (top - 1) (length (inner x)) before l)
+      (sym (append-assoc (k .front) (k .first ∷ []) (k .second ∷ k .more))) series)
 
   first-ends : Ends table (top - 1 - countAll (k .second ∷ k .more)) (before ++ concatMap records (k .front)) (k .first)
-  first-ends = part-ends (k .front) (k .first) (k .second ∷ k .more) row
+  first-ends = part-ends (k .front) (k .first) (k .second ∷ k .more) series
 
   module _ {second : ℕ} (t : Tells second table top (markedEnd Alike top)) where
     second-at : top - 1 - countAll (k .more) ≡ second
@@ -89,7 +89,7 @@ module _ {table : List ℕ} {top : ℕ} {before : List ℕ} {x y : Node} (s : Sh
 
       the-behind : Behind table (top - 1) first before (k .front) (k .first) (k .second ∷ k .more)
       the-behind = record {
-        row = record { stands = row .stands; counted = refl; sound = row .sound };
+        series = record { stands = series .stands; counted = refl; sound = series .sound };
         here = omega (arith, all, first-at, room (s .ends) .few);
       }
 

@@ -1,4 +1,4 @@
--- Where a run ends: the parts of a row behind its first are walked from the last one back.
+-- Where a run ends: the parts of a series behind its first are walked from the last one back.
 use mathlib.Core.Path.{_≡_, refl, sym, ap, subst, _∙_}
 use mathlib.Core.Bool.{Bool, true, false}
 use mathlib.Core.List.{List, [], _∷_, _++_, append-assoc, append-nil}
@@ -10,16 +10,17 @@ use Rattle.meaning.specs.Results.{concatMap}
 use Rattle.table.specs.Table.{recordCount, records}
 use Rattle.table.specs.Laws.{each-left, each-right, countAll, count-append, records-append, long-all, inner-count}
 use Rattle.table.specs.Roots.{stands-under}
-use Rattle.tidying_fitting.specs.Parts.{Sound, Ends, Row, SomePart, Tells, TellsBoth, Last, some-last, last-ends, shorter, room}
+use Rattle.tidying_fitting.specs.Parts.{Sound, Ends, Series, SomePart, Tells, TellsBoth}
+use Rattle.tidying_fitting.specs.Parts.{Last, some-last, last-ends, shorter, room}
 use Rattle.tidying_fitting.specs.Words.{startOf}
 use Rattle.tidying_fitting.specs.Marks.{alike}
 use Rattle.tidying_rewriting.specs.Dropped.{each-proper}
 use Rattle.tidying_sharing.specs.Leads.{opening}
 
--- The parts at the front of a row are a row.
-pub row-front : {table : List ℕ} {top items : ℕ} {before : List ℕ} (a b : List Node) → Row table top items before (a ++ b)
-    → Row table (top - countAll b) (length a) before a
-row-front {before = before} a b r = record {
+-- The parts at the front of a series are a series.
+pub series-front : {table : List ℕ} {top items : ℕ} {before : List ℕ} (a b : List Node) → Series table top items before (a ++ b)
+    → Series table (top - countAll b) (length a) before a
+series-front {before = before} a b r = record {
   stands = stands-under (before ++ concatMap records a) (concatMap records b) (countAll b) (rw words at (r .stands))
       (long-all b (each-proper b (each-right Sound a b (r .sound))));
   counted = refl;
@@ -31,18 +32,18 @@ row-front {before = before} a b r = record {
 
 -- And each of its parts stands where it ends.
 pub part-ends : {table : List ℕ} {top items : ℕ} {before : List ℕ} (a : List Node) (q : Node) (b : List Node)
-    → Row table top items before (a ++ (q ∷ b)) → Ends table (top - countAll b) (before ++ concatMap records a) q
+    → Series table top items before (a ++ (q ∷ b)) → Ends table (top - countAll b) (before ++ concatMap records a) q
 part-ends {table} {top} {items} {before} a q b r =
-    let row : Row table top items before ((a ++ (q ∷ [])) ++ b) = rw append-assoc r in
-    last-ends a q (row-front (a ++ (q ∷ [])) b row)
+    let series : Series table top items before ((a ++ (q ∷ [])) ++ b) = rw append-assoc r in
+    last-ends a q (series-front (a ++ (q ∷ [])) b series)
 
 -- At `top` end the parts up to q, which ends at `first`, and more.
 pub record Behind (table : List ℕ) (top first : ℕ) (before : List ℕ) (front : List Node) (q : Node)
     (more : List Node) : Type 0 where
-  pub row : Row table top (length (front ++ (q ∷ more))) before (front ++ (q ∷ more))
+  pub series : Series table top (length (front ++ (q ∷ more))) before (front ++ (q ∷ more))
   pub here : top ≡ first + countAll more
 
--- What is asked: that there is such a row.
+-- What is asked: that there is such a series.
 pub record SomeBehind (table : List ℕ) (top first : ℕ) : Type 0 where
   pub before : List ℕ
   pub front : List Node
@@ -64,7 +65,7 @@ pub record Back (table : List ℕ) (first end stop : ℕ) (before : List ℕ) (f
   pub behind : Behind table end first before front q rest
   pub best : stop ≡ end + countAll (opening (alike q) seen)
 
--- What the loop keeps, whatever the row is.
+-- What the loop keeps, whatever the series is.
 pub record Backs (table : List ℕ) (top first end stop : ℕ) : Type 0 where
   pub by : (before : List ℕ) (front : List Node) (q : Node) (more : List Node) → Behind table top first before front q more
       → Back table first end stop before front q more
@@ -88,7 +89,7 @@ module _ {table : List ℕ} {first end stop : ℕ} {before : List ℕ} {front : 
 
   first-ends : Ends table first (before ++ concatMap records front) q
   first-ends = subst (λ (i : ℕ). Ends table i (before ++ concatMap records front) q) first-here
-      (part-ends front q (b .rest) (b .behind .row))
+      (part-ends front q (b .rest) (b .behind .series))
 
   pub first-there : SomePart table first
   first-there = record { before = before ++ concatMap records front; part = q; ends = first-ends }
@@ -100,11 +101,11 @@ module _ {table : List ℕ} {first end stop : ℕ} {before : List ℕ} {front : 
     abbrev part : Node
     part = last .last
 
-    row : Row table end (length (front ++ (q ∷ b .rest))) before ((front ++ (q ∷ last .front)) ++ (part ∷ []))
-    row = rw (append-assoc, ← last .split) (b .behind .row)
+    series : Series table end (length (front ++ (q ∷ b .rest))) before ((front ++ (q ∷ last .front)) ++ (part ∷ []))
+    series = rw (append-assoc, ← last .split) (b .behind .series)
 
     ends : Ends table end (before ++ concatMap records (front ++ (q ∷ last .front))) part
-    ends = last-ends (front ++ (q ∷ last .front)) part row
+    ends = last-ends (front ++ (q ∷ last .front)) part series
 
     pub last-there : SomePart table end
     last-there = record { before = before ++ concatMap records (front ++ (q ∷ last .front)); part = part; ends = ends }
@@ -114,7 +115,7 @@ module _ {table : List ℕ} {first end stop : ℕ} {before : List ℕ} {front : 
 
     next : Behind table (end - recordCount part) first before front q (last .front)
     next = record {
-      row = let r = shorter (front ++ (q ∷ last .front)) part row in
+      series = let r = shorter (front ++ (q ∷ last .front)) part series in
           record { stands = r .stands; counted = refl; sound = r .sound };
       here = omega (arith, counted, b .behind .here);
     }

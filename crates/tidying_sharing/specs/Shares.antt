@@ -17,7 +17,7 @@ use Rattle.tidying_fitting.specs.Marks.{beginsWith, alike, follows, marks, begi
 use Rattle.tidying_fitting.specs.declared.Mark.the-variants.{Alike}
 use Rattle.tidying_shapes.specs.Skeleton.{Token, token, rowToken, skeletonIn, skeleton, glue-row, glue-in, glue-width}
 use Rattle.tidying_rewriting.specs.Rewriting.{ok-some}
-use Rattle.tidying_rewriting.specs.Rows.{RowOf, row-of, rejoined, rejoined-join, skeletons-append}
+use Rattle.tidying_rewriting.specs.Series.{SeriesOf, series-of, rejoined, rejoined-join, skeletons-append}
 use Rattle.tidying_sharing.specs.Leads.{left, opening, RunOf, run-of, glued, sharing, SharedAt, share-at, is-some}
 use Rattle.tidying_sharing.specs.Trims.{trimmed, lead-tokens}
 use Rattle.tidying_sharing.specs.Wraps.{setToken}
@@ -38,15 +38,15 @@ pub record Shares (x y : Node) : Type 0 where
   pub says : token x ≡ rowToken alternation (length (inner x))
   pub all : inner x ≡ parts alternation x
 
-abbrev sharedRow : List Node → Option Node
-sharedRow l = Option·map (join alternation) (share l)
+abbrev sharedSeries : List Node → Option Node
+sharedSeries l = Option·map (join alternation) (share l)
 
 pub shares-of : (x y : Node) → t8 x ≡ some y → Shares x y
 unfolding share leftmost
 shares-of x y e = go (inner x) refl
   where
-    row : RowOf alternation sharedRow x y
-    row = ok-some (RowOf alternation sharedRow x) e (row-of alternation sharedRow x)
+    series : SeriesOf alternation sharedSeries x y
+    series = ok-some (SeriesOf alternation sharedSeries x) e (series-of alternation sharedSeries x)
 
     at-split : (p : Node) (l : List Node) (at : Split) (m : List Node) → inner x ≡ p ∷ l → join alternation m ≡ y
         → leftmost follows (p ∷ []) l ≡ some at → SharedAt (p ∷ l) m (behind p at) → Shares x y
@@ -62,14 +62,15 @@ shares-of x y e = go (inner x) refl
       begins = k .begins;
       result = ap (join alternation) (sym (k .result)) ∙ made;
       several = k .many;
-      says = row .says;
-      all = row .all;
+      says = series .says;
+      all = series .all;
     }
 
     go : (ps : List Node) → inner x ≡ ps → Shares x y
-    go [] is = absurd (Option·none-ne-some y (sym (ap sharedRow is) ∙ row .fits))
+    go [] is = absurd (Option·none-ne-some y (sym (ap sharedSeries is) ∙ series .fits))
     go (p ∷ l) is =
-        let (m, shares, made) = map-eq-some-iff (join alternation) (share (p ∷ l)) .0 (sym (ap sharedRow is) ∙ row .fits) in
+        let (m, shares, made)
+        = map-eq-some-iff (join alternation) (share (p ∷ l)) .0 (sym (ap sharedSeries is) ∙ series .fits) in
         let (at, found) = is-some (leftmost follows (p ∷ []) l) (sym (share-leftmost [] p l) ∙ ap isSome shares) in
         at-split p l at m is made found (share-at [] p l m at found shares)
 
@@ -111,13 +112,13 @@ module _ {x y : Node} (k : Shares x y) where
   split-run = k .split ∙ ap (λ m. k .front ++ m) (the-run .split)
 
 -- What is left of several alternatives is one alternation, which follows the set in a sequence.
-glues-row : (p : Node) (l : List Node) → (trimmed (glues p l) ≡ concatMap trimmed (p ∷ l))
+glues-series : (p : Node) (l : List Node) → (trimmed (glues p l) ≡ concatMap trimmed (p ∷ l))
     × (length (parts alternation (glues p l)) ≡ widths (p ∷ l))
 unfolding glues
-glues-row p [] = (sym (append-nil (trimmed p)), omega arith)
-glues-row p (q ∷ l) =
+glues-series p [] = (sym (append-nil (trimmed p)), omega arith)
+glues-series p (q ∷ l) =
     let g = glue-row alternation p (glues q l) in
-    let h = glues-row q l in
+    let h = glues-series q l in
     (g .0 ∙ ap (λ ts. trimmed p ++ ts) (h .0), g .1 ∙ ap (λ n. length (parts alternation p) + n) (h .1))
 
 wrapped : (s : List ℕ) (l : List Node) → 2 ≤ length l → skeleton (seq (bset s) (glued l))
@@ -127,18 +128,18 @@ wrapped s [] h = absurd (omega arith)
 wrapped s (p ∷ []) h = absurd (omega arith)
 wrapped s (p ∷ q ∷ l) h =
     let r : Node = glues q l in
-    let (row, width) = glues-row q l in
+    let (series, width) = glues-series q l in
     let one : length (parts sequence (glue alternation p r)) ≡ 1 = glue-width (some sequence) alternation p r in
     let own : List Token = rowToken alternation (widths (p ∷ q ∷ l)) ∷ [] in
     let inside : skeletonIn (some sequence) (glue alternation p r) ≡ concatMap trimmed (p ∷ q ∷ l) ++ own
     = glue-in (some sequence) alternation p r
-    ∙ ap₂ (λ ts n. trimmed p ++ (ts ++ (rowToken alternation (length (parts alternation p) + n) ∷ []))) row width
+    ∙ ap₂ (λ ts n. trimmed p ++ (ts ++ (rowToken alternation (length (parts alternation p) + n) ∷ []))) series width
     ∙ sym (append-assoc (trimmed p) (concatMap trimmed (q ∷ l)) own) in
     lead-tokens s (glue alternation p r)
     ∙ ap₂ (λ ts n. setToken s ∷ (ts ++ (rowToken sequence (suc n) ∷ []))) inside one
     ∙ ap (λ ts. setToken s ∷ ts) (append-assoc (concatMap trimmed (p ∷ q ∷ l)) own (rowToken sequence 2 ∷ []))
 
--- A row's own token stands behind its parts, unless there is one part only.
+-- A series' own token stands behind its parts, unless there is one part only.
 abbrev pub ending : ℕ → List Token → List Token
 ending zero m = m
 ending (suc zero) m = m
@@ -154,23 +155,23 @@ module _ {x y : Node} (k : Shares x y) (apart : Each (Not alternation) (inner x)
   abbrev wrap : Node
   wrap = seq (bset (k .set)) (glued (rests k))
 
-  abbrev row : List Node
-  row = k .front ++ (wrap ∷ after k)
+  abbrev series : List Node
+  series = k .front ++ (wrap ∷ after k)
 
-  row-apart : Each (Not alternation) row
-  row-apart =
+  series-apart : Each (Not alternation) series
+  series-apart =
       let whole = rw (split-run k) at apart in
       let behind = each-right (Not alternation) (k .front) (leads k ++ after k) whole in
       each-append (Not alternation) (k .front) (wrap ∷ after k)
       (each-left (Not alternation) (k .front) (leads k ++ after k) whole)
       (tt, each-right (Not alternation) (leads k) (after k) behind)
 
-  joined-row : join alternation row ≡ y
-  joined-row =
+  joined-series : join alternation series ≡ y
+  joined-series =
       ap (λ m. join alternation (k .front ++ (seq (bset (k .set)) (glued m) ∷ after k))) (sym (the-run k .trimmed)) ∙ k .result
 
-  row-length : length row ≡ length (k .front) + suc (length (after k))
-  row-length = length-append (k .front) (wrap ∷ after k)
+  series-length : length series ≡ length (k .front) + suc (length (after k))
+  series-length = length-append (k .front) (wrap ∷ after k)
 
   pub result-tokens : (kept : ℕ) (m : List Token) → kept ≡ length (k .front) + suc (length (after k))
       → skeleton y ++ m ≡ concatMap skeleton (k .front) ++ (setToken (k .set) ∷ (concatMap trimmed (rests k)
@@ -179,15 +180,15 @@ module _ {x y : Node} (k : Shares x y) (apart : Each (Not alternation) (inner x)
       let front : List Token = concatMap skeleton (k .front) in
       let some : List Token = concatMap trimmed (rests k) in
       let behind : List Token = concatMap skeleton (after k) in
-      let rows : List Token = rowToken alternation (widths (rests k)) ∷ rowToken sequence 2 ∷ [] in
-      let tokens : concatMap skeleton row ≡ front ++ ((setToken (k .set) ∷ (some ++ rows)) ++ behind)
+      let owns : List Token = rowToken alternation (widths (rests k)) ∷ rowToken sequence 2 ∷ [] in
+      let tokens : concatMap skeleton series ≡ front ++ ((setToken (k .set) ∷ (some ++ owns)) ++ behind)
       = skeletons-append (k .front) (wrap ∷ after k)
       ∙ ap (λ ts. front ++ (ts ++ behind)) (wrapped (k .set) (rests k) (two-rests k)) in
-      ap (λ z. skeleton z ++ m) (sym joined-row)
-      ∙ ap (λ ts. ts ++ m) (sym (rejoined-join alternation row row-apart))
-      ∙ rejoined-ending (length row) (concatMap skeleton row) m (omega (arith, length-append (k .front) (wrap ∷ after k)))
-      ∙ ap₂ (λ ts n. ts ++ ending n m) tokens (row-length ∙ sym e)
-      ∙ regroup front some rows behind (ending kept m)
+      ap (λ z. skeleton z ++ m) (sym joined-series)
+      ∙ ap (λ ts. ts ++ m) (sym (rejoined-join alternation series series-apart))
+      ∙ rejoined-ending (length series) (concatMap skeleton series) m (omega (arith, length-append (k .front) (wrap ∷ after k)))
+      ∙ ap₂ (λ ts n. ts ++ ending n m) tokens (series-length ∙ sym e)
+      ∙ regroup front some owns behind (ending kept m)
     where
       regroup : (a b c d e : List Token)
           → (a ++ ((setToken (k .set) ∷ (b ++ c)) ++ d)) ++ e ≡ a ++ (setToken (k .set) ∷ (b ++ (c ++ (d ++ e))))

@@ -1,4 +1,4 @@
--- T8 in a table: the run found, its alternatives trimmed, the alternation's own record set, the set and two rows put round.
+-- T8 in a table: the run found, its alternatives trimmed, the alternation's own record set, and the shared set put before.
 use mathlib.Core.Path.{_≡_, refl, sym, ap, subst, _∙_}
 use mathlib.Core.List.{List, [], _∷_, _++_, append-assoc}
 use Prim.Native.Nat.{ℕ, suc, _+_, _-_, _*_, _≤_, _<_}
@@ -11,7 +11,7 @@ use Rattle.table.specs.Table.{recordWords}
 use Rattle.table.specs.Laws.{Each, each-left, each-right, inner, parts-flat, countAll, count-append, inner-count}
 use Rattle.tidying_laws.specs.Laws.{t8}
 use Rattle.tidying_fitting.specs.Marks.{alike}
-use Rattle.tidying_fitting.specs.Parts.{Sound, Row, inside, room, sound-inner}
+use Rattle.tidying_fitting.specs.Parts.{Sound, Series, inside, room, sound-inner}
 use Rattle.tidying_shapes.specs.Skeleton.{Token, token, rowToken, skeletonIn, skeleton}
 use Rattle.tidying_shapes.specs.Tokens.{Says}
 use Rattle.tidying_shapes.specs.Laws.{says-length, says-at}
@@ -19,11 +19,11 @@ use Rattle.tidying_shapes.specs.Told.{skeleton-count}
 use Rattle.tidying_rewriting.specs.Rewriting.{Fitting, SomeFitting, Rewrites, own-word, count}
 use Rattle.tidying_rewriting.specs.Own.{own-said, inside-here}
 use Rattle.tidying_rewriting.specs.Dropped.{each-proper}
-use Rattle.tidying_rewriting.specs.Rows.{skeletons-count, skeletons-append, Rejoins}
+use Rattle.tidying_rewriting.specs.Series.{skeletons-count, skeletons-append, Rejoins}
 use Rattle.tidying_sharing.specs.Leads.{Lead, Lead.single, Lead.leading, opening}
 use Rattle.tidying_sharing.specs.Trims.{trimmed, lead-tokens}
 use Rattle.tidying_sharing.specs.Wraps.{setToken, Wraps}
-use Rattle.tidying_sharing.specs.Runs.{row-front}
+use Rattle.tidying_sharing.specs.Runs.{series-front}
 use Rattle.tidying_sharing.specs.Shortening.{wordLimit, widths, Running, SomeRunning, Shortens}
 use Rattle.tidying_sharing.specs.Shares.{Shares, shares-of, leads, rests, after, the-run, two-leads, split-run}
 use Rattle.tidying_sharing.specs.Shares.{ending, rejoined-ending, result-tokens}
@@ -109,19 +109,19 @@ module _ {table : List ℕ} {n top : ℕ} {before : List ℕ} {x y : Node} {l m 
     stops : from + length whole ≡ stop
     stops = let told = at .end before x y fit-sharing in omega (arith, whole-count)
 
-    row : Row table stop (length (k .front ++ leads k)) before (k .front ++ leads k)
-    row =
+    series : Series table stop (length (k .front ++ leads k)) before (k .front ++ leads k)
+    series =
         let under : top - 1 - countAll (after k) ≡ stop = omega (arith, starts, stops, all, behind-count) in
         let first : List Node = k .front ++ leads k in
         let parts : inner x ≡ first ++ after k = split-run k ∙ sym (append-assoc (k .front) (leads k) (after k)) in
         let items : ℕ = length (inner x) in
-        subst (λ (i : ℕ). Row table i (length first) before first) under (row-front {items = items} first (after k)
-        (subst (λ (ps : List Node). Row table (top - 1) items before ps) parts (inside (fit .placed .ends))))
+        subst (λ (i : ℕ). Series table i (length first) before first) under (series-front {items = items} first (after k)
+        (subst (λ (ps : List Node). Series table (top - 1) items before ps) parts (inside (fit .placed .ends))))
 
     the-running : Running table n from stop before (k .set) (k .front) (leads k) l (behind ++ (token x ∷ m))
     the-running = record {
       walk = record {
-        row = row;
+        series = series;
         low = omega (arith, starts, stops, ap length (skeletons-append (k .front) (leads k)), length-append front whole);
         says = rw (skeletons-append (k .front) (leads k), append-assoc) said;
       };
@@ -236,7 +236,7 @@ module _ {table : List ℕ} {n top : ℕ} {before : List ℕ} {x y : Node} {l m 
           pub wrap-room : (from ≤ stop + n₁ - n) × (stop + n₁ - n ≤ n₂) × (recordWords * (n₂ + 3) ≤ length table)
           wrap-room =
               let last : List Token = ending (items - gone + 1) m in
-              let rows : List Token = rowToken alternation (widths (rests k)) ∷ rowToken sequence 2 ∷ (behind ++ last) in
+              let owns : List Token = rowToken alternation (widths (rests k)) ∷ rowToken sequence 2 ∷ (behind ++ last) in
               omega (
                 arith,
                 fit .room,
@@ -252,8 +252,8 @@ module _ {table : List ℕ} {n top : ℕ} {before : List ℕ} {x y : Node} {l m 
                 length-append behind last,
                 ap length result,
                 length-append (skeleton y) m,
-                length-append front (setToken (k .set) ∷ (rest ++ rows)),
-                length-append rest rows,
+                length-append front (setToken (k .set) ∷ (rest ++ owns)),
+                length-append rest owns,
               )
 
           wrapped-said : {table₃ set : List ℕ} {n₃ : ℕ} → set ≡ k .set

@@ -14,7 +14,7 @@ use Rattle.tidying_fitting.specs.Words.{startOf}
 use Rattle.tidying_shapes.specs.Skeleton.{Token, skeleton}
 use Rattle.tidying_shapes.specs.Tokens.{Says}
 use Rattle.tidying_shapes.specs.Told.{skeleton-count}
-use Rattle.tidying_rewriting.specs.Rows.{skeletons-append}
+use Rattle.tidying_rewriting.specs.Series.{skeletons-append}
 use Rattle.tidying_rewriting.specs.Walks.{Walked, Turned, turned}
 use Rattle.tidying_sharing.specs.Leads.{Lead, left}
 use Rattle.tidying_sharing.specs.Trims.{trimmed, fewer-parts, trim-width}
@@ -153,7 +153,7 @@ module _ {table : List ℕ} {n from end gone width : ℕ} {before s : List ℕ} 
           split = k .split ∙ ap (λ x. x ++ k .done) (last .split) ∙ append-assoc (last .front) (item ∷ []) (k .done);
           running = record {
             walk = rw whole (record {
-              row = record { stands = next .row .stands; counted = refl; sound = next .row .sound };
+              series = record { stands = next .series .stands; counted = refl; sound = next .series .sound };
               low = next .low;
               says = next .says;
             });

@@ -62,10 +62,10 @@ data Left : Node → Type 0 where
       → skeletonIn (some sequence) r ≡ trimmed r → (front : List Token) (last : Token) → trimmed r ≡ front ++ (last ∷ [])
       → (last .kind ≡ 6 → ⊥) → Left r
 
--- A row in a row of the other kind: its parts and its own token.
-row-own : (k : Kind) (r q : Node) → skeleton (pair k r q)
+-- A series in a series of the other kind: its parts and its own token.
+series-own : (k : Kind) (r q : Node) → skeleton (pair k r q)
     ≡ skeletonIn (some k) (pair k r q) ++ (rowToken k (suc (length (parts k q))) ∷ [])
-row-own k r q =
+series-own k r q =
     pair-own k r q ∙ ap (λ ts. ts ++ (rowToken k (suc (length (parts k q))) ∷ [])) (sym (pair-row k r q))
 
 module _ (r : Node) (q : Not sequence r) (a : Not alternation r) (k : kindOf r ≡ 6 → ⊥) where
@@ -80,8 +80,8 @@ left-of (bset s) = plain (bset s) tt tt (λ e. omega arith)
 left-of (assert b) = plain (assert b) tt tt (λ e. omega arith)
 left-of (group n r) = plain (group n r) tt tt (λ e. omega arith)
 left-of (seq r q) = several {r = seq r q} (omega (arith, length-parts sequence q)) refl
-    (alone alternation (seq r q) tt .0 ∙ row-own sequence r q)
-left-of (alt r q) = choice refl (alone sequence (alt r q) tt .0 ∙ row-own alternation r q)
+    (alone alternation (seq r q) tt .0 ∙ series-own sequence r q)
+left-of (alt r q) = choice refl (alone sequence (alt r q) tt .0 ∙ series-own alternation r q)
 left-of (many n e lazy r) = plain (many n e lazy r) tt tt (λ e. omega arith)
 
 -- The words of the own record and of the one below it are read from the tokens.
@@ -204,7 +204,7 @@ module _ {table table₁ table₂ : List ℕ} {n records w : ℕ} (z : records �
   trims-other h f k c g = longer z (λ s r m t.
       let left = other-left t e h f k c g (left-of r) in (says-same refl (omega arith) (left .0), left .1))
 
--- A pattern has a token, and a row of them as many as there are or more.
+-- A pattern has a token, and a series of them as many as there are or more.
 some-tokens : (r : Node) → 1 ≤ length (skeleton r)
 some-tokens r = omega (arith, ap length (inner-skeleton r), length-append (concatMap skeleton (inner r)) (token r ∷ []))
 
@@ -212,8 +212,8 @@ pub fewer-parts : (l : List Node) → length l ≤ length (concatMap skeleton l)
 fewer-parts [] = omega arith
 fewer-parts (p ∷ l) = omega (arith, fewer-parts l, some-tokens p, length-append (skeleton p) (concatMap skeleton l))
 
-row-some : (k : Kind) (r : Node) → length (parts k r) ≤ length (skeletonIn (some k) r)
-row-some k r = rw (row-parts k r) (fewer-parts (parts k r))
+series-some : (k : Kind) (r : Node) → length (parts k r) ≤ length (skeletonIn (some k) r)
+series-some k r = rw (row-parts k r) (fewer-parts (parts k r))
 
 -- So the records are there,
 pub some-trimming : {table : List ℕ} {n records : ℕ} {s : List ℕ} {a r : Node} {m : List Token}
@@ -233,7 +233,7 @@ some-trimming {table} {n} {records} {s} {a} {r} {m} t = record {
   where
     go : {s : List ℕ} {a r : Node} {m : List Token} → records ≡ 2 → Lead s a r → Trimming table n records s a r m → ⊥
     go two single t = omega (arith, t .counted)
-    go two (leading r) t = omega (arith, long t, length-parts sequence r, row-some sequence r)
+    go two (leading r) t = omega (arith, long t, length-parts sequence r, series-some sequence r)
 
 -- and what is left has an alternative for each of them at most.
 pub trim-width : {s : List ℕ} {a r : Node} → Lead s a r → length (parts alternation r) ≤ length (skeleton a)
@@ -248,5 +248,5 @@ trim-width {s} (leading r) = go (left-of r)
     go (several _ one _) = omega (arith, tokens)
     go (choice _ whole) =
         let own : List Token = rowToken alternation (length (parts alternation r)) ∷ [] in
-        omega (arith, tokens, row-some alternation r, ap length whole, length-append (trimmed r) own)
+        omega (arith, tokens, series-some alternation r, ap length whole, length-append (trimmed r) own)
     go (other _ one _ _ _ _ _) = omega (arith, tokens)

@@ -1,4 +1,4 @@
--- T6 fits where a part of the row is the one that it looks for.
+-- T6 fits where a part of the series is the one that it looks for.
 use mathlib.Core.Path.{sym}
 use borrow.Author.Needs.{needs}
 use Rattle.tidying_laws.specs.Laws.{t6}

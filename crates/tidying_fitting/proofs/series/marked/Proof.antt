@@ -1,4 +1,4 @@
--- Each mark has its own test of the last part of a row.
+-- Each mark has its own test of the last part of a series.
 use borrow.Author.Needs.{needs}
 use Rattle.tidying_laws.specs.Laws.{isEmpty, isVoid}
 use Rattle.tidying_fitting.specs.declared.Mark.the-variants.{Empty, Equal, Void, Alike}

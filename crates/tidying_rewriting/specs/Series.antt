@@ -1,4 +1,4 @@
--- A row of parts of a kind: its own token says how many there are. Without parts it is empty, and with one it is that part.
+-- A series of parts of a kind: its own token says how many there are. Without parts it is empty, and with one it is that part.
 use mathlib.Core.Path.{_≡_, refl, sym, _∙_}
 use mathlib.Core.Option.{Option, none, some}
 use mathlib.Core.List.{List, [], _∷_, _++_, append-assoc, append-nil}
@@ -28,8 +28,8 @@ skeletons-append [] m = refl
 skeletons-append (r ∷ l) m =
     rw (skeletons-append l m) (sym (append-assoc (skeleton r) (concatMap skeleton l) (concatMap skeleton m)))
 
--- A law on the parts of a kind fits only a row of them, and is told of the parts inside it.
-pub record RowOf (k : Kind) (f : List Node → Option Node) (x y : Node) : Type 0 where
+-- A law on the parts of a kind fits only a series of them, and is told of the parts inside it.
+pub record SeriesOf (k : Kind) (f : List Node → Option Node) (x y : Node) : Type 0 where
   pub says : token x ≡ rowToken k (length (inner x))
   pub fits : f (inner x) ≡ some y
   pub all : inner x ≡ parts k x
@@ -38,25 +38,25 @@ ok-each : (P : Node → Type 0) (o : Option Node) → ((y : Node) → o ≡ some
 ok-each P none h = tt
 ok-each P (some y) h = h y refl
 
-pub row-of : (k : Kind) (f : List Node → Option Node) (x : Node) → Ok (RowOf k f x) (onParts k f x)
+pub series-of : (k : Kind) (f : List Node → Option Node) (x : Node) → Ok (SeriesOf k f x) (onParts k f x)
 unfolding parts inner
-row-of k f empty = tt
-row-of k f (bset s) = tt
-row-of k f (assert a) = tt
-row-of k f (group n r) = tt
-row-of sequence f (alt r q) = tt
-row-of alternation f (seq r q) = tt
-row-of k f (many n e lazy r) = tt
-row-of sequence f (seq r q) =
-    let P : Node → Type 0 = RowOf sequence f (seq r q) in
+series-of k f empty = tt
+series-of k f (bset s) = tt
+series-of k f (assert a) = tt
+series-of k f (group n r) = tt
+series-of sequence f (alt r q) = tt
+series-of alternation f (seq r q) = tt
+series-of k f (many n e lazy r) = tt
+series-of sequence f (seq r q) =
+    let P : Node → Type 0 = SeriesOf sequence f (seq r q) in
     let l : List Node = r ∷ parts sequence q in
     ok-two P f l (λ h. ok-each P (f l) (λ y e. record { says = refl; fits = e; all = refl }))
-row-of alternation f (alt r q) =
-    let P : Node → Type 0 = RowOf alternation f (alt r q) in
+series-of alternation f (alt r q) =
+    let P : Node → Type 0 = SeriesOf alternation f (alt r q) in
     let l : List Node = r ∷ parts alternation q in
     ok-two P f l (λ h. ok-each P (f l) (λ y e. record { says = refl; fits = e; all = refl }))
 
--- The tokens of a row over those of its parts, by how many parts there are.
+-- The tokens of a series over those of its parts, by how many parts there are.
 abbrev pub rejoined : Kind → ℕ → List Token → List Token
 rejoined k zero ts = leafToken 1 ∷ []
 rejoined k (suc zero) ts = ts
@@ -69,7 +69,7 @@ rejoined-join k [] h = refl
 rejoined-join k (r ∷ []) h = append-nil (skeleton r)
 rejoined-join k (r ∷ q ∷ l) h = sym (pair-own k r (link k q l) ∙ rw (row-parts k (link k q l), parts-link k q l (h .1)))
 
--- The own record of a row whose records end at `top` is set to how many parts are left.
+-- The own record of a series whose records end at `top` is set to how many parts are left.
 pub record Rejoins (table table′ : List ℕ) (n top kept n′ : ℕ) : Type 0 where
   pub by : (k : Kind) (old : ℕ) (l ts m : List Token) → length l + length ts ≡ top - 1 → (kept ≡ 0 → ts ≡ [])
       → Says table n (l ++ (ts ++ (rowToken k old ∷ m))) → Says table′ n′ (l ++ (rejoined k kept ts ++ m))
@@ -97,7 +97,7 @@ module _ {table table′ : List ℕ} {n top kept : ℕ} where
       more k ts (suc zero) z o = absurd (o refl)
       more k ts (suc (suc i)) z o = refl
 
--- Where parts are left that are not of the row's kind, they are joined.
+-- Where parts are left that are not of the series' kind, they are joined.
 pub record Rejoining (table : List ℕ) (n top kept : ℕ) (k : Kind) (parts : List Node) (l m : List Token) : Type 0 where
   pub old : ℕ
   pub says : Says table n (l ++ (concatMap skeleton parts ++ (rowToken k old ∷ m)))
