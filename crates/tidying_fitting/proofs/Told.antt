@@ -10,6 +10,7 @@ use borrow.Author.Tests.{eqb-true}
 use Rattle.meaning.specs.Tests.{and-true}
 use Rattle.meaning.specs.Node.{Node, Node.empty, Node.bset, Node.assert, Node.group, Node.seq, Node.alt, Node.many, hi}
 use Rattle.table.specs.Table.{recordWords}
+use Rattle.table.specs.Table.{quantifierKind, kindWord, recordsWord, itemsWord, highestWord, leastWord, mostWord, lazyWord}
 use Rattle.table.specs.Laws.{inner, kindOf, lastOf, last-eight}
 use Rattle.table.specs.Roots.{root-word}
 use Rattle.tidying_fitting.specs.Parts.{Sound, Ends, SomePart, Tells, room, inside, last-ends}
@@ -40,20 +41,20 @@ module _ {table : List ℕ} {top : ℕ} where
   asked s = omega (arith, room (s .ends) .some, room (s .ends) .few, room (s .ends) .held)
 
   -- What the words that were read say, whatever the part is.
-  pub own-told : {k n i h l m z : ℕ} → k ≡ wordAt table top 0 → n ≡ wordAt table top 2 → i ≡ wordAt table top 3 → h ≡ wordAt
-      table top 6
-      → l ≡ wordAt table top 8 → m ≡ wordAt table top 9 → z ≡ wordAt table top 10
+  pub own-told : {k n i h l m z : ℕ} → k ≡ wordAt table top kindWord → n ≡ wordAt table top recordsWord
+      → i ≡ wordAt table top itemsWord → h ≡ wordAt table top highestWord
+      → l ≡ wordAt table top leastWord → m ≡ wordAt table top mostWord → z ≡ wordAt table top lazyWord
       → Tells (record { kind = k; records = n; items = i; highest = h; least = l; most = m; lazy = z }) table top ownOf
   own-told {k} {n} {i} {h} {l} {m} {z} e₀ e₂ e₃ e₆ e₈ e₉ e₁₀ = record {
     by = λ before r p.
         let read = root-word before r (p .sound .proper) (p .stands) in
-        let f₀ = e₀ ∙ read 0 (omega arith) in
-        let f₂ = e₂ ∙ read 2 (omega arith) in
-        let f₃ = e₃ ∙ read 3 (omega arith) in
-        let f₆ = e₆ ∙ read 6 (omega arith) in
-        let f₈ = e₈ ∙ read 8 (omega arith) in
-        let f₉ = e₉ ∙ read 9 (omega arith) in
-        let f₁₀ = e₁₀ ∙ read 10 (omega arith) in
+        let f₀ = e₀ ∙ read kindWord (omega arith) in
+        let f₂ = e₂ ∙ read recordsWord (omega arith) in
+        let f₃ = e₃ ∙ read itemsWord (omega arith) in
+        let f₆ = e₆ ∙ read highestWord (omega arith) in
+        let f₈ = e₈ ∙ read leastWord (omega arith) in
+        let f₉ = e₉ ∙ read mostWord (omega arith) in
+        let f₁₀ = e₁₀ ∙ read lazyWord (omega arith) in
         cc;
   }
 
@@ -99,12 +100,12 @@ record Quantifier (table : List ℕ) (top : ℕ) (before : List ℕ) (r : Node) 
   ends : Ends table (top - 1) before part
   on : (f : Node → Node → Bool) → onPart f r ≡ f r part
 
-quantifier : {table : List ℕ} {top : ℕ} {before : List ℕ} {r : Node} → Ends table top before r → kindOf r ≡ 7 → Quantifier
-    table top before r
+quantifier : {table : List ℕ} {top : ℕ} {before : List ℕ} {r : Node} → Ends table top before r → kindOf r ≡ quantifierKind
+    → Quantifier table top before r
 unfolding inner
 quantifier {table} {top} {before} {r} p e = go r e p
   where
-    go : (r : Node) → kindOf r ≡ 7 → Ends table top before r → Quantifier table top before r
+    go : (r : Node) → kindOf r ≡ quantifierKind → Ends table top before r → Quantifier table top before r
     go empty e p = absurd (omega arith)
     go (bset s) e p = absurd (omega arith)
     go (assert a) e p = absurd (omega arith)
@@ -114,7 +115,7 @@ quantifier {table} {top} {before} {r} p e = go r e p
     go (many n e lazy q) h p = record { part = q; ends = rw append-nil at (last-ends [] q (inside p)); on = λ f. refl }
 
 -- A part fails a test of a quantifier and its part if it is none, or if it fails whatever its part is.
-not-quantifier : (f : Node → Node → Bool) (r : Node) → (kindOf r ≡ 7 → ⊥) → false ≡ onPart f r
+not-quantifier : (f : Node → Node → Bool) (r : Node) → (kindOf r ≡ quantifierKind → ⊥) → false ≡ onPart f r
 not-quantifier f empty h = refl
 not-quantifier f (bset s) h = refl
 not-quantifier f (assert a) h = refl
@@ -132,7 +133,7 @@ never f (seq r q) h = refl
 never f (alt r q) h = refl
 never f (many n e lazy q) h = sym (h q)
 
-passed : (f : Node → Node → Bool) (r : Node) → onPart f r ≡ true → kindOf r ≡ 7
+passed : (f : Node → Node → Bool) (r : Node) → onPart f r ≡ true → kindOf r ≡ quantifierKind
 passed f empty h = absurd (false≢true h)
 passed f (bset s) h = absurd (false≢true h)
 passed f (assert a) h = absurd (false≢true h)
@@ -143,15 +144,16 @@ passed f (many n e lazy q) h = refl
 
 -- Whatever part ends at `top` is a quantifier.
 pub record Quantified (table : List ℕ) (top : ℕ) : Type 0 where
-  by : (before : List ℕ) (r : Node) → Ends table top before r → kindOf r ≡ 7
+  by : (before : List ℕ) (r : Node) → Ends table top before r → kindOf r ≡ quantifierKind
 
 module _ {table : List ℕ} {top : ℕ} where
-  pub quantified-kind : {o : Record} → Tells o table top ownOf → o .kind ≡ 7 → Quantified table top
+  pub quantified-kind : {o : Record} → Tells o table top ownOf → o .kind ≡ quantifierKind → Quantified table top
   quantified-kind t e = record { by = λ before r p. sym (ap (λ d. d .kind) (t .by before r p)) ∙ e }
 
   pub quantified-ranged : {o : Record} (most : ℕ) → Tells o table top ownOf → ranged o most ≡ true → Quantified table top
   quantified-ranged {o} most t e =
-      quantified-kind t (eqb-true (o .kind) 7 (and-true (eqb (o .kind) 7) (eqb (o .least) 0 && eqb (o .most) most) e .0))
+      quantified-kind t (eqb-true (o .kind) quantifierKind
+      (and-true (eqb (o .kind) quantifierKind) (eqb (o .least) 0 && eqb (o .most) most) e .0))
 
   pub quantified-passed : {b : Bool} (f : Node → Node → Bool) → Tells b table top (onPart f) → b ≡ true → Quantified table top
   quantified-passed f t e = record { by = λ before r p. passed f r (sym (t .by before r p) ∙ e) }
@@ -173,8 +175,8 @@ module _ {table : List ℕ} {top : ℕ} where
         (q .on (λ r q. f (ownOf r) (ownOf q)));
   }
 
-  pub off-kind : (f : Node → Node → Bool) {o : Record} → Tells o table top ownOf → (o .kind ≡ 7 → ⊥) → Tells false table top
-      (onPart f)
+  pub off-kind : (f : Node → Node → Bool) {o : Record} → Tells o table top ownOf → (o .kind ≡ quantifierKind → ⊥)
+      → Tells false table top (onPart f)
   off-kind f t h = record { by = λ before r p. not-quantifier f r (λ e. h (ap (λ d. d .kind) (t .by before r p) ∙ e)) }
 
   pub off-ranged : {o : Record} (most : ℕ) → Tells o table top ownOf → ranged o most ≡ false → Tells false table top

@@ -11,7 +11,7 @@ use borrow.Author.Tests.{eq-eqb, ne-eqb}
 use Rattle.meaning.specs.Node.{Node, Node.empty}
 use Rattle.meaning.specs.Flat.{Kind.sequence, Not, join}
 use Rattle.meaning.specs.Results.{concatMap}
-use Rattle.table.specs.Table.{recordWords, recordsIn, recordCount}
+use Rattle.table.specs.Table.{recordWords, recordsIn, recordCount, emptyKind, kindWord, recordsWord, itemsWord}
 use Rattle.table.specs.Laws.{Each, inner, kindOf, parts-flat}
 use Rattle.tidying_laws.specs.Choices.{any}
 use Rattle.tidying_laws.specs.Equal.{same-eq}
@@ -37,7 +37,7 @@ pub record Filling (table : List ℕ) (n end left kept : ℕ) (before : List ℕ
 
 module _ {table : List ℕ} {n : ℕ} {before : List ℕ} {x : Node} {l m : List Token} where
   -- It begins with no item behind,
-  pub filling-start : {top w : ℕ} → Placed table n top before x l m → w ≡ getD table (recordWords * (top - 1) + 3) 0
+  pub filling-start : {top w : ℕ} → Placed table n top before x l m → w ≡ getD table (recordWords * (top - 1) + itemsWord) 0
       → Filling table n (top - 1) w 0 before x l m
   unfolding filled
   filling-start p e = record {
@@ -68,21 +68,21 @@ module _ {table : List ℕ} {n : ℕ} {before : List ℕ} {x : Node} {l m : List
     split-more : inner x ≡ front ++ (item ∷ f .more)
     split-more = f .split ∙ ap (λ r. r ++ f .more) (last .split) ∙ append-assoc front (item ∷ []) (f .more)
 
-    gone : kindOf item ≡ 1 → (item ≡ empty) × (filled (item ∷ f .more) ≡ filled (f .more))
+    gone : kindOf item ≡ emptyKind → (item ≡ empty) × (filled (item ∷ f .more) ≡ filled (f .more))
     unfolding filled
     gone e =
-        let passes : isEmpty item ≡ true = empty-kind item ∙ eq-eqb (kindOf item) 1 e in
+        let passes : isEmpty item ≡ true = empty-kind item ∙ eq-eqb (kindOf item) emptyKind e in
         (same-eq item empty passes, rw passes)
 
-    stays : (kindOf item ≡ 1 → ⊥) → filled (item ∷ f .more) ≡ item ∷ filled (f .more)
+    stays : (kindOf item ≡ emptyKind → ⊥) → filled (item ∷ f .more) ≡ item ∷ filled (f .more)
     unfolding filled
-    stays e = rw (empty-kind item ∙ ne-eqb (kindOf item) 1 e)
+    stays e = rw (empty-kind item ∙ ne-eqb (kindOf item) emptyKind e)
 
-    pub filling-gone : {table′ : List ℕ} {w n′ : ℕ} → w ≡ getD table (recordWords * (end - 1) + 0) 0 → w ≡ 1
+    pub filling-gone : {table′ : List ℕ} {w n′ : ℕ} → w ≡ getD table (recordWords * (end - 1) + kindWord) 0 → w ≡ emptyKind
         → Cut table table′ n (end - 1) 1 n′ → Filling table′ n′ (end - 1) (left - 1) kept before x l m
     unfolding recordsIn skeletonIn
     filling-gone {table′} {w} {n′} e z cut =
-        let (is, same) = gone (sym (last-word turn 0 (omega arith)) ∙ sym e ∙ z) in
+        let (is, same) = gone (sym (last-word turn kindWord (omega arith)) ∙ sym e ∙ z) in
         let one : recordCount item ≡ 1 = ap recordCount is in
         let ts : List Token = concatMap skeleton (filled (item ∷ f .more)) ++ (token x ∷ m) in
         let tokens : List Token = concatMap skeleton front in
@@ -99,11 +99,11 @@ module _ {table : List ℕ} {n : ℕ} {before : List ℕ} {x : Node} {l m : List
           counted = f .counted ∙ ap length (sym same);
         }
 
-    pub filling-kept : {v w : ℕ} → w ≡ getD table (recordWords * (end - 1) + 0) 0 → (w ≡ 1 → ⊥)
-        → v ≡ getD table (recordWords * (end - 1) + 2) 0 → Filling table n (end - v) (left - 1) (kept + 1) before x l m
+    pub filling-kept : {v w : ℕ} → w ≡ getD table (recordWords * (end - 1) + kindWord) 0 → (w ≡ emptyKind → ⊥)
+        → v ≡ getD table (recordWords * (end - 1) + recordsWord) 0 → Filling table n (end - v) (left - 1) (kept + 1) before x l m
     filling-kept {v} {w} e z r =
-        let same = stays (λ k. z (e ∙ last-word turn 0 (omega arith) ∙ k)) in
-        let all : v ≡ recordCount item = r ∙ last-word turn 2 (omega arith) in
+        let same = stays (λ k. z (e ∙ last-word turn kindWord (omega arith) ∙ k)) in
+        let all : v ≡ recordCount item = r ∙ last-word turn recordsWord (omega arith) in
         let ts : List Token = concatMap skeleton (filled (item ∷ f .more)) ++ (token x ∷ m) in
         let says : Says table n (l ++ (concatMap skeleton front ++ ts)) = rw (same, append-assoc) (turn .says) in
         record {
@@ -118,8 +118,8 @@ module _ {table : List ℕ} {n : ℕ} {before : List ℕ} {x : Node} {l m : List
     pub item-there : (0 < end) × (end ≤ n) × (recordWords * n ≤ length table)
     item-there = omega (arith, turn .some, turn .few, turn .under, turn .says .room)
 
-    pub item-few : {v : ℕ} → v ≡ getD table (recordWords * (end - 1) + 2) 0 → v ≤ end
-    item-few r = let all = r ∙ last-word turn 2 (omega arith) in omega (arith, turn .few)
+    pub item-few : {v : ℕ} → v ≡ getD table (recordWords * (end - 1) + recordsWord) 0 → v ≤ end
+    item-few r = let all = r ∙ last-word turn recordsWord (omega arith) in omega (arith, turn .few)
 
 -- In the end the series is rejoined over the filled items.
 each-filled : (l : List Node) → Each (Not sequence) l → Each (Not sequence) (filled l)

@@ -8,6 +8,7 @@ use lib.ListN.{length, length-append}
 use Rattle.meaning.specs.Node.{Node, Node.empty, Node.bset, Node.assert, Node.group, Node.seq, Node.alt, Node.many, Proper}
 use Rattle.meaning.specs.Flat.{Kind, Kind.sequence, Kind.alternation, Not, parts, link, join}
 use Rattle.meaning.specs.Results.{concatMap}
+use Rattle.table.specs.Table.{emptyKind}
 use Rattle.table.specs.Laws.{Each, inner, countAll, parts-link}
 use Rattle.tidying_laws.specs.Laws.{onParts}
 use Rattle.tidying_laws.specs.Kept.{Ok, ok-two}
@@ -58,7 +59,7 @@ series-of alternation f (alt r q) =
 
 -- The tokens of a series over those of its parts, by how many parts there are.
 abbrev pub rejoined : Kind → ℕ → List Token → List Token
-rejoined k zero ts = leafToken 1 ∷ []
+rejoined k zero ts = leafToken emptyKind ∷ []
 rejoined k (suc zero) ts = ts
 rejoined k (suc (suc i)) ts = ts ++ (rowToken k (suc (suc i)) ∷ [])
 
@@ -80,7 +81,7 @@ module _ {table table′ : List ℕ} {n top kept : ℕ} where
       → Rejoins table table′ n top kept n′
   rejoining f = record { by = λ k old l ts m e z s. f k old l ts m (omega (arith, length-append l ts)) z (rw append-assoc s) }
 
-  pub rejoins-none : kept ≡ 0 → Marked table table′ (top - 1) (leafToken 1) → Rejoins table table′ n top kept n
+  pub rejoins-none : kept ≡ 0 → Marked table table′ (top - 1) (leafToken emptyKind) → Rejoins table table′ n top kept n
   rejoins-none z e = rejoining (λ k old l ts m low none s.
       rw z (rw (none z, append-nil) at (e .says n (l ++ ts) (rowToken k old) m low s)))
 

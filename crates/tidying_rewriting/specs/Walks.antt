@@ -6,7 +6,7 @@ use native.Mathlib.Omega.{arith}
 use lib.ListN.{length, getD, take, length-append}
 use Rattle.meaning.specs.Node.{Node}
 use Rattle.meaning.specs.Results.{concatMap}
-use Rattle.table.specs.Table.{recordWords, recordCount, recordOf, records}
+use Rattle.table.specs.Table.{recordWords, recordCount, recordOf, records, itemsWord}
 use Rattle.table.specs.Laws.{inner, kindOf, operandOf, lastOf}
 use Rattle.table.specs.Roots.{root-word}
 use Rattle.tidying_fitting.specs.Parts.{Ends, Series, last-ends, shorter, inside, room}
@@ -26,10 +26,10 @@ pub record Walked (table : List ℕ) (n end left : ℕ) (before : List ℕ) (res
 
 -- It begins below the series' own record.
 pub walk-start : {table : List ℕ} {n top w : ℕ} {before : List ℕ} {x : Node} {l m : List Token}
-    → Placed table n top before x l m → w ≡ getD table (recordWords * (top - 1) + 3) 0
+    → Placed table n top before x l m → w ≡ getD table (recordWords * (top - 1) + itemsWord) 0
     → Walked table n (top - 1) w before (inner x) l (token x ∷ m)
 walk-start {table} {n} {top} {w} {before} {x} p e =
-    let all : length (inner x) ≡ w = sym (e ∙ own-word p 3 (omega arith)) in
+    let all : length (inner x) ≡ w = sym (e ∙ own-word p itemsWord (omega arith)) in
     record {
       series = subst (λ (i : ℕ). Series table (top - 1) i before (inner x)) all (inside (p .ends));
       low = omega (arith, inside-here p);

@@ -7,7 +7,7 @@ use lib.ListN.{length, getD, take, drop, length-append}
 use Rattle.meaning.specs.Node.{Node}
 use Rattle.meaning.specs.Flat.{Kind.sequence, Kind.alternation, Not}
 use Rattle.meaning.specs.Results.{concatMap}
-use Rattle.table.specs.Table.{recordWords}
+use Rattle.table.specs.Table.{recordWords, recordsWord, itemsWord}
 use Rattle.table.specs.Laws.{Each, each-left, each-right, inner, parts-flat, countAll, count-append, inner-count}
 use Rattle.tidying_laws.specs.Laws.{t8}
 use Rattle.tidying_fitting.specs.Marks.{alike}
@@ -129,7 +129,7 @@ module _ {table : List ℕ} {n top : ℕ} {before : List ℕ} {x y : Node} {l m 
       all = the-run k .all;
     }
 
-    pub running-there : getD table (recordWords * (top - 1) + 2) 0 < wordLimit → SomeRunning table n from stop
+    pub running-there : getD table (recordWords * (top - 1) + recordsWord) 0 < wordLimit → SomeRunning table n from stop
     running-there h = record {
       before = before;
       set = k .set;
@@ -140,7 +140,7 @@ module _ {table : List ℕ} {n top : ℕ} {before : List ℕ} {x y : Node} {l m 
       running = the-running;
       short = omega (
         arith,
-        own-word (fit .placed) 2 (omega arith),
+        own-word (fit .placed) recordsWord (omega arith),
         stops,
         whole-count,
         inner-count x,
@@ -182,11 +182,11 @@ module _ {table : List ℕ} {n top : ℕ} {before : List ℕ} {x y : Node} {l m 
         length-append behind (token x ∷ m),
       )
 
-      module _ {items : ℕ} (i : items ≡ getD table (recordWords * (top - 1) + 3) 0) where
+      module _ {items : ℕ} (i : items ≡ getD table (recordWords * (top - 1) + itemsWord) 0) where
         all-items : items ≡ length (k .front) + (length (leads k) + length (after k))
         all-items = omega (
           arith,
-          i ∙ own-word (fit .placed) 3 (omega arith),
+          i ∙ own-word (fit .placed) itemsWord (omega arith),
           ap length (split-run k),
           length-append (k .front) (leads k ++ after k),
           length-append (leads k) (after k),
@@ -283,7 +283,7 @@ some-sharing s = record {
 
 pub shares : {table table₁ table₂ table₃ set : List ℕ} {n top from stop n₁ gone width items n₂ n₃ : ℕ}
     → Located from stop table top → set ≡ take 8 (drop (recordWords * from + 8) table)
-    → Shortens table table₁ n from stop n₁ gone width → items ≡ getD table (recordWords * (top - 1) + 3) 0
+    → Shortens table table₁ n from stop n₁ gone width → items ≡ getD table (recordWords * (top - 1) + itemsWord) 0
     → Rejoins table₁ table₂ n₁ (top + n₁ - n) (items - gone + 1) n₂
     → Wraps table₂ table₃ n₂ from (stop + n₁ - n) width set n₃ → Rewrites t8 table table₃ n top n₃
 shares at e sh i cl w = record {

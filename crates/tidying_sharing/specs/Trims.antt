@@ -8,7 +8,7 @@ use lib.ListN.{length, getD, length-append}
 use Rattle.meaning.specs.Node.{Node, Node.empty, Node.bset, Node.assert, Node.group, Node.seq, Node.alt, Node.many}
 use Rattle.meaning.specs.Flat.{Kind, Kind.sequence, Kind.alternation, Not, parts, pair}
 use Rattle.meaning.specs.Results.{concatMap}
-use Rattle.table.specs.Table.{recordWords}
+use Rattle.table.specs.Table.{recordWords, emptyKind, alternationKind, kindWord, itemsWord}
 use Rattle.table.specs.Laws.{inner, kindOf}
 use Rattle.tidying_fitting.specs.Parts.{length-parts}
 use Rattle.tidying_shapes.specs.Skeleton.{Token, token, rowToken, skeletonIn, skeleton, inner-skeleton, row-parts, alone}
@@ -60,7 +60,7 @@ data Left : Node → Type 0 where
       → skeletonIn (some sequence) r ≡ trimmed r ++ (rowToken alternation (length (parts alternation r)) ∷ []) → Left r
   other : {r : Node} → length (parts sequence r) ≡ 1 → length (parts alternation r) ≡ 1
       → skeletonIn (some sequence) r ≡ trimmed r → (front : List Token) (last : Token) → trimmed r ≡ front ++ (last ∷ [])
-      → (last .kind ≡ 6 → ⊥) → Left r
+      → (last .kind ≡ alternationKind → ⊥) → Left r
 
 -- A series in a series of the other kind: its parts and its own token.
 series-own : (k : Kind) (r q : Node) → skeleton (pair k r q)
@@ -68,7 +68,7 @@ series-own : (k : Kind) (r q : Node) → skeleton (pair k r q)
 series-own k r q =
     pair-own k r q ∙ ap (λ ts. ts ++ (rowToken k (suc (length (parts k q))) ∷ [])) (sym (pair-row k r q))
 
-module _ (r : Node) (q : Not sequence r) (a : Not alternation r) (k : kindOf r ≡ 6 → ⊥) where
+module _ (r : Node) (q : Not sequence r) (a : Not alternation r) (k : kindOf r ≡ alternationKind → ⊥) where
   plain : Left r
   plain = other (alone sequence r q .1) (alone alternation r a .1) (alone sequence r q .0 ∙ sym (alone alternation r a .0))
       (concatMap skeleton (inner r)) (token r) (alone alternation r a .0 ∙ inner-skeleton r) k
@@ -105,10 +105,10 @@ module _ {table : List ℕ} {n records : ℕ} {s : List ℕ} {r : Node} {m : Lis
   long : suc (suc (length items)) ≡ records
   long = omega (arith, t .counted, ap length (lead-tokens s r), length-append items (own ∷ []))
 
-  own-items : getD table (recordWords * (records - 1) + 3) 0 ≡ suc (length (parts sequence r))
+  own-items : getD table (recordWords * (records - 1) + itemsWord) 0 ≡ suc (length (parts sequence r))
   own-items =
       let at : length (set ∷ items) ≡ records - 1 = omega (arith, long) in
-      subst (λ (i : ℕ). getD table (recordWords * i + 3) 0 ≡ suc (length (parts sequence r))) at
+      subst (λ (i : ℕ). getD table (recordWords * i + itemsWord) 0 ≡ suc (length (parts sequence r))) at
       (ap (λ k. k .items) (says-at (set ∷ items) own m said))
 
   below : (front : List Token) (last : Token) → items ≡ front ++ (last ∷ []) → tokenAt table (records - 1 - 1) ≡ last
@@ -118,10 +118,10 @@ module _ {table : List ℕ} {n records : ℕ} {s : List ℕ} {r : Node} {m : Lis
       subst (λ (i : ℕ). tokenAt table i ≡ last) at (says-at (set ∷ front) last (own ∷ m) told)
 
   kind-below : (front : List Token) (last : Token) → items ≡ front ++ (last ∷ [])
-      → getD table (recordWords * (records - 1 - 1) + 0) 0 ≡ last .kind
+      → getD table (recordWords * (records - 1 - 1) + kindWord) 0 ≡ last .kind
   kind-below front last e = ap (λ i. getD table i 0) (omega arith) ∙ ap (λ k. k .kind) (below front last e)
 
-  module _ {w : ℕ} (e : w ≡ getD table (recordWords * (records - 1) + 3) 0) where
+  module _ {w : ℕ} (e : w ≡ getD table (recordWords * (records - 1) + itemsWord) 0) where
     all : w ≡ suc (length (parts sequence r))
     all = e ∙ own-items
 
@@ -138,8 +138,9 @@ module _ {table : List ℕ} {n records : ℕ} {s : List ℕ} {r : Node} {m : Lis
     several-left h c g (other one _ _ _ _ _ _) = absurd (omega (arith, all))
 
     -- Two items: the sequence goes too, and so does an alternation that is the second, whose alternatives join.
-    choice-left : {table₁ table₂ : List ℕ} {k p : ℕ} → w ≤ 2 → k ≡ getD table (recordWords * (records - 1 - 1) + 0) 0
-        → k ≡ 6 → p ≡ getD table (recordWords * (records - 1 - 1) + 3) 0 → Removed table table₁ n (records - 2) 2
+    choice-left : {table₁ table₂ : List ℕ} {k p : ℕ} → w ≤ 2 → k ≡ getD table (recordWords * (records - 1 - 1) + kindWord) 0
+        → k ≡ alternationKind → p ≡ getD table (recordWords * (records - 1 - 1) + itemsWord) 0
+        → Removed table table₁ n (records - 2) 2
         → Removed table₁ table₂ (n - 2) 0 1 → Left r
         → Says table₂ (n - 2 - 1) (trimmed r ++ m) × (p ≡ length (parts alternation r))
     choice-left h f z i c g (several two _ _) = absurd (omega (arith, all))
@@ -154,8 +155,8 @@ module _ {table : List ℕ} {n records : ℕ} {s : List ℕ} {r : Node} {m : Lis
     choice-left h f z i c g (other _ _ same front last split differs) =
         absurd (differs (sym (kind-below front last (same ∙ split)) ∙ sym f ∙ z))
 
-    other-left : {table₁ table₂ : List ℕ} {k : ℕ} → w ≤ 2 → k ≡ getD table (recordWords * (records - 1 - 1) + 0) 0
-        → (k ≡ 6 → ⊥) → Removed table table₁ n (records - 1) 1 → Removed table₁ table₂ (n - 1) 0 1 → Left r
+    other-left : {table₁ table₂ : List ℕ} {k : ℕ} → w ≤ 2 → k ≡ getD table (recordWords * (records - 1 - 1) + kindWord) 0
+        → (k ≡ alternationKind → ⊥) → Removed table table₁ n (records - 1) 1 → Removed table₁ table₂ (n - 1) 0 1 → Left r
         → Says table₂ (n - 1 - 1) (trimmed r ++ m) × (1 ≡ length (parts alternation r))
     other-left h f z c g (several two _ _) = absurd (omega (arith, all))
     other-left h f z c g (choice _ whole) = absurd (z (f ∙ kind-below (trimmed r) inner-own whole))
@@ -166,7 +167,7 @@ module _ {table : List ℕ} {n records : ℕ} {s : List ℕ} {r : Node} {m : Lis
 
 -- So each way to trim.
 module _ {table table₁ : List ℕ} {n records : ℕ} where
-  pub trims-single : records ≡ 1 → Marked table table₁ 0 (leafToken 1) → Trims table table₁ n records n 1
+  pub trims-single : records ≡ 1 → Marked table table₁ 0 (leafToken emptyKind) → Trims table table₁ n records n 1
   unfolding skeletonIn inner parts
   trims-single e k = record { by = λ s a r m t. go (t .lead) t }
     where
@@ -188,18 +189,18 @@ module _ {table table₁ : List ℕ} {n records : ℕ} where
       go {s} {m = m} (leading r) t = f s r m t
 
 module _ {table table₁ table₂ : List ℕ} {n records w : ℕ} (z : records ≡ 1 → ⊥)
-    (e : w ≡ getD table (recordWords * (records - 1) + 3) 0) where
+    (e : w ≡ getD table (recordWords * (records - 1) + itemsWord) 0) where
   pub trims-several : 2 < w → Counted table table₁ (records - 1) (w - 1) → Removed table₁ table₂ n 0 1
       → Trims table table₂ n records (n - 1) 1
   trims-several h c g = longer z (λ s r m t. several-left t e h c g (left-of r))
 
-  pub trims-choice : {k p : ℕ} → w ≤ 2 → k ≡ getD table (recordWords * (records - 1 - 1) + 0) 0 → k ≡ 6
-      → p ≡ getD table (recordWords * (records - 1 - 1) + 3) 0 → Removed table table₁ n (records - 2) 2
+  pub trims-choice : {k p : ℕ} → w ≤ 2 → k ≡ getD table (recordWords * (records - 1 - 1) + kindWord) 0 → k ≡ alternationKind
+      → p ≡ getD table (recordWords * (records - 1 - 1) + itemsWord) 0 → Removed table table₁ n (records - 2) 2
       → Removed table₁ table₂ (n - 2) 0 1 → Trims table table₂ n records (n - 3) p
   trims-choice h f k i c g = longer z (λ s r m t.
       let left = choice-left t e h f k i c g (left-of r) in (says-same refl (omega arith) (left .0), left .1))
 
-  pub trims-other : {k : ℕ} → w ≤ 2 → k ≡ getD table (recordWords * (records - 1 - 1) + 0) 0 → (k ≡ 6 → ⊥)
+  pub trims-other : {k : ℕ} → w ≤ 2 → k ≡ getD table (recordWords * (records - 1 - 1) + kindWord) 0 → (k ≡ alternationKind → ⊥)
       → Removed table table₁ n (records - 1) 1 → Removed table₁ table₂ (n - 1) 0 1 → Trims table table₂ n records (n - 2) 1
   trims-other h f k c g = longer z (λ s r m t.
       let left = other-left t e h f k c g (left-of r) in (says-same refl (omega arith) (left .0), left .1))

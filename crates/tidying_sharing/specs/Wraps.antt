@@ -5,13 +5,14 @@ use Prim.Native.Nat.{ℕ, _+_}
 use native.Mathlib.Omega.{arith}
 use lib.ListN.{length, length-append}
 use Rattle.meaning.specs.Flat.{Kind.sequence, Kind.alternation}
+use Rattle.table.specs.Table.{setKind}
 use Rattle.tidying_shapes.specs.Skeleton.{Token, rowToken}
 use Rattle.tidying_shapes.specs.Tokens.{Says}
 use Rattle.tidying_shapes.specs.Laws.{says-same}
 use Rattle.tidying_shapes.specs.Edits.{Inserted, Marked}
 
 abbrev pub setToken : List ℕ → Token
-setToken set = record { kind = 2; operand = 0; items = 0; last = set }
+setToken set = record { kind = setKind; operand = 0; items = 0; last = set }
 
 pub record Wraps (table table′ : List ℕ) (n start end parts : ℕ) (set : List ℕ) (n′ : ℕ) : Type 0 where
   pub by : (l ts m : List Token) → length l ≡ start → length l + length ts ≡ end → Says table n (l ++ (ts ++ m))
