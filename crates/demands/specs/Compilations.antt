@@ -2,11 +2,10 @@
 -- tidied pattern: computed.
 use mathlib.Core.Path.{_≡_, refl}
 use mathlib.Core.List.{List, [], _∷_, _++_}
-use native.Mathlib.Decide.{ℕ-discrete}
 use Prim.Native.Nat.{ℕ}
 use Prim.Native.String.{String}
 use lib.ListN.{length, replicate}
-use Rattle.sets.specs.Sets.{setOf, wordOf, isDigit, bit, has}
+use Rattle.sets.specs.Sets.{setOf, wordOf, isDigit}
 use Rattle.meaning.specs.Quoted.{bytes}
 use Rattle.meaning.specs.Limits.{tableWords, codeSize}
 use Rattle.meaning.specs.Node.{lo, hi}
@@ -14,13 +13,7 @@ use Rattle.meaning.specs.Flat.{parts}
 use Rattle.machine.specs.Layout.{sizeOf, rowsOf, past, anyByte}
 use Rattle.machine.specs.Words.{codeOf}
 use Rattle.table.specs.Table.{recordsIn, ownRecord, wordsIn}
-use Rattle.tidying_laws.specs.Groups.{groups, groupFree}
-use Rattle.tidying_laws.specs.Void.{noBytes}
-use Rattle.tidying_laws.specs.Equal.{same, decList, decOption}
-use Rattle.tidying_laws.specs.Measures.{weight}
-use Rattle.tidying_laws.specs.List.{laws}
-use Rattle.tidying_laws.specs.Laws.{t1, t2, t3, t4, t5, t6, t7, t8, t9, filled, distinct, possible, run, glues, share}
-use Rattle.tidying_laws.specs.Tidier.{places, lowest, found, tidyStep, tidies, tidy}
+use Rattle.tidying_laws.specs.Vectors.{computed}
 use Rattle.reading_atoms.specs.Braces.{numberGo, numberAt, bracesAt, quantifierAt}
 use Rattle.reading_items.specs.Reading.{Reading, openingAt, itemBy, itemAt, sequenceGo, alternativesGo, reading}
 use Rattle.compiler.specs.Compiling.{plain, tidied, answerBy, tableLeft, codeLeft}
@@ -72,15 +65,13 @@ star-code = refl
 either-way : (either "a{1}?" ≡ (Rows 10 0, Rows 9 0)) × (either "(?:a?)??" ≡ (Rows 17 0, Rows 17 0))
     × (either "a|abc|d" ≡ (Rows 17 0, Rows 16 0))
 unfolding reading alternativesGo sequenceGo itemAt itemBy openingAt quantifierAt bracesAt numberAt numberGo parts isDigit sizeOf
-    tidy tidies tidyStep found lowest laws t1 t2 t3 t4 t5 t6 t7 t8 t9 places weight same decList decOption ℕ-discrete
-    groupFree groups filled distinct possible run glues share noBytes has bit setOf wordOf
+    computed setOf wordOf
 either-way = (refl, refl, refl)
 
 -- 16 is by the tidied rows: 108 need more words than there are, and 8 do not. 15 is by the plain ones: 2,008, and not 8.
 limits : (either "(?:){100}" ≡ (Refused 16 0, Rows 8 0)) × (either "(?:){1000}(?:){1000}" ≡ (Refused 15 0, Refused 15 0))
 unfolding reading alternativesGo sequenceGo itemAt itemBy openingAt quantifierAt bracesAt numberAt numberGo parts isDigit sizeOf
-    tidy tidies tidyStep found lowest laws t1 t2 t3 t4 t5 t6 t7 t8 t9 places weight same decList decOption ℕ-discrete
-    groupFree groups filled distinct possible run glues share noBytes has bit
+    computed
 limits = (refl, refl)
 
 -- The table of `a{1}?` holds the one record of `a`, and its code is that of `a`.
@@ -90,12 +81,10 @@ set = 0 ∷ 0 ∷ 0 ∷ 2 ∷ 0 ∷ 0 ∷ 0 ∷ 0 ∷ []
 one-record : tableLeft tidied (readOf "a{1}?") codeSize (replicate 192 7)
     ≡ 2 ∷ 0 ∷ 1 ∷ 0 ∷ 1 ∷ 1 ∷ 0 ∷ 0 ∷ (set ++ replicate 176 0)
 unfolding reading alternativesGo sequenceGo itemAt itemBy openingAt quantifierAt bracesAt numberAt numberGo parts isDigit sizeOf
-    tidy tidies tidyStep found lowest laws t1 t2 t3 t4 t5 t6 t7 t8 t9 places weight same decList decOption ℕ-discrete
-    groupFree groups filled distinct possible run glues share noBytes has bit setOf wordOf recordsIn ownRecord wordsIn lo hi
+    computed setOf wordOf recordsIn ownRecord wordsIn lo hi
 one-record = refl
 
 same-code : codeLeft tidied (readOf "a{1}?") (replicate 130 7) ≡ codeLeft plain (readOf "a") (replicate 130 7)
 unfolding reading alternativesGo sequenceGo itemAt itemBy openingAt quantifierAt bracesAt numberAt numberGo parts isDigit sizeOf
-    tidy tidies tidyStep found lowest laws t1 t2 t3 t4 t5 t6 t7 t8 t9 places weight same decList decOption ℕ-discrete
-    groupFree groups filled distinct possible run glues share noBytes has bit setOf wordOf
+    computed setOf wordOf
 same-code = refl

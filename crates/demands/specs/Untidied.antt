@@ -1,23 +1,16 @@
 -- Tidiers that the promise rules out: one that returns its input, and one that returns one fixed pattern.
 use mathlib.Core.Path.{_≡_, refl, sym, ap, _∙_}
 use mathlib.Core.List.{List, []}
-use native.Mathlib.Decide.{ℕ-discrete}
 use native.Mathlib.Omega.{arith}
 use Prim.Native.Nat.{ℕ}
 use lib.ListN.{getD, replicate}
-use Rattle.sets.specs.Sets.{setOf, wordOf, isDigit, bit, has}
+use Rattle.sets.specs.Sets.{setOf, wordOf, isDigit}
 use Rattle.meaning.specs.Quoted.{bytes}
 use Rattle.meaning.specs.Node.{lo, hi}
 use Rattle.meaning.specs.Flat.{parts}
 use Rattle.machine.specs.Layout.{sizeOf}
 use Rattle.table.specs.Table.{recordsIn, ownRecord, wordsIn}
-use Rattle.tidying_laws.specs.Groups.{groups, groupFree}
-use Rattle.tidying_laws.specs.Void.{noBytes}
-use Rattle.tidying_laws.specs.Equal.{same, decList, decOption}
-use Rattle.tidying_laws.specs.Measures.{weight}
-use Rattle.tidying_laws.specs.List.{laws}
-use Rattle.tidying_laws.specs.Laws.{t1, t2, t3, t4, t5, t6, t7, t8, t9, filled, distinct, possible, run, glues, share}
-use Rattle.tidying_laws.specs.Tidier.{places, lowest, found, tidyStep, tidies, tidy}
+use Rattle.tidying_laws.specs.Vectors.{computed}
 use Rattle.reading_atoms.specs.Braces.{numberGo, numberAt, bracesAt, quantifierAt}
 use Rattle.reading_items.specs.Reading.{openingAt, itemBy, itemAt, sequenceGo, alternativesGo, reading}
 use Rattle.compiler.specs.Compiling.{plain, tidied, tableAt, Compiles}
@@ -45,8 +38,7 @@ plain-word = refl
 
 tidied-word : getD (tableAt tidied (bytes "a{1}") table code) 16 0 ≡ 0
 unfolding reading alternativesGo sequenceGo itemAt itemBy openingAt quantifierAt bracesAt numberAt numberGo parts isDigit sizeOf
-    tidy tidies tidyStep found lowest laws t1 t2 t3 t4 t5 t6 t7 t8 t9 places weight same decList decOption ℕ-discrete
-    groupFree groups filled distinct possible run glues share noBytes has bit setOf wordOf recordsIn ownRecord wordsIn lo hi
+    computed setOf wordOf recordsIn ownRecord wordsIn lo hi
 tidied-word = refl
 
 -- The first word of a table is the kind of the first record: 1 for the empty pattern, 2 for `a`.
@@ -57,8 +49,7 @@ empty-kind = refl
 
 set-kind : getD (tableAt tidied (bytes "a") table code) 0 0 ≡ 2
 unfolding reading alternativesGo sequenceGo itemAt itemBy openingAt quantifierAt parts sizeOf
-    tidy tidies tidyStep found lowest laws t1 t2 t3 t4 t5 t6 t7 t8 t9 places weight same decList decOption ℕ-discrete
-    groupFree groups filled distinct possible run glues share noBytes has bit setOf wordOf recordsIn ownRecord wordsIn lo hi
+    computed setOf wordOf recordsIn ownRecord wordsIn lo hi
 set-kind = refl
 
 module _ (t : Tidying) where

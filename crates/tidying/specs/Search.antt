@@ -56,11 +56,6 @@ some-part top h s = record {
   ends = place-ends (s .node) (s .sought .all) (s .sought .stands) top h;
 }
 
--- As many as the code's LAWS.
-pub law-count : lawCount ≡ 9
-unfolding lawCount laws
-law-count = refl
-
 -- A law that fits, or not.
 fits-some : (o : Option Node) → isSome o ≡ true → (y : Node) × (o ≡ some y)
 fits-some none h = absurd (false≢true h)

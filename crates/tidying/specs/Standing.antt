@@ -114,7 +114,7 @@ wrap-placed t r wrap l h words count (n, g) = (
       (ends-here t (wrap r) (recordCount r + 1) h (words t ∙ sym (words none)) (count none), tt),
 )
 
--- The parts inside the first part of a row, those of the rest, and the row itself unless it goes on.
+-- The parts inside the first part of a series, those of the rest, and the series itself unless it goes on.
 abbrev closing : Option Kind → Kind → Node → List ℕ
 closing t k r = unless t k [] (ownRecord r)
 
@@ -141,10 +141,10 @@ whole-placed (some alternation) sequence r n h e f =
     (refl, (ends-here (some alternation) r n h (f (some alternation) none refl) e, tt))
 whole-placed (some alternation) alternation r n h e f = (refl, tt)
 
-row-placed : (t : Option Kind) (k : Kind) (a q : Node) (l m : List Place) → Whole (pair k a q) → Placed none a l
+series-placed : (t : Option Kind) (k : Kind) (a q : Node) (l m : List Place) → Whole (pair k a q) → Placed none a l
     → Placed (some k) q m
     → Placed t (pair k a q) (map (inside (λ p. glue k p q)) l ++ (map (inside (pair k a)) m ++ whole t k (pair k a q)))
-row-placed t k a q l m h (n, f) (o, g) =
+series-placed t k a q l m h (n, f) (o, g) =
     let r : Node = pair k a q in
     let here : ℕ = recordCount a + recordsIn (some k) q + 1 in
     let last = whole-placed t k r here h (omega (arith, pair-count none k a q))
@@ -157,9 +157,10 @@ row-placed t k a q l m h (n, f) (o, g) =
     (pair-words t k a q ∙ append-assoc (records a) (wordsIn (some k) q) (closing t k r))
     (long a (whole-pair k a q h .0 .proper)) 1 (recordCount a + 1) refl m g in (
       simp (length-append, length-map) (omega (arith, pair-count t k a q, last .0)),
-      numbered-append (Ended t r) 1 (recordCount a + 1) (map (inside (λ p. glue k p q)) l) _ first (simp length-map (omega arith))
-          (numbered-append (Ended t r) (recordCount a + 1) here (map (inside (pair k a)) m) _ rest (simp length-map (omega arith))
-          (last .1)),
+      numbered-append (Ended t r) 1 (recordCount a + 1) (map (inside (λ p. glue k p q)) l) _ first
+          (simp length-map (omega arith))
+          (numbered-append (Ended t r) (recordCount a + 1) here (map (inside (pair k a)) m) _ rest
+          (simp length-map (omega arith)) (last .1)),
     )
 
 placed : (t : Option Kind) (r : Node) → Whole r → Placed t r (places t r)
@@ -169,9 +170,9 @@ placed t (bset s) h = leaf-placed t (bset s) h refl refl refl
 placed t (assert a) h = leaf-placed t (assert a) h refl refl refl
 placed t (group k r) h =
     wrap-placed t r (group k) (places none r) h (λ s. refl) (λ s. refl) (placed none r (whole-group k r h))
-placed t (seq a q) h = row-placed t sequence a q (places none a) (places (some sequence) q) h
+placed t (seq a q) h = series-placed t sequence a q (places none a) (places (some sequence) q) h
     (placed none a (whole-pair sequence a q h .0)) (placed (some sequence) q (whole-pair sequence a q h .1))
-placed t (alt a q) h = row-placed t alternation a q (places none a) (places (some alternation) q) h
+placed t (alt a q) h = series-placed t alternation a q (places none a) (places (some alternation) q) h
     (placed none a (whole-pair alternation a q h .0)) (placed (some alternation) q (whole-pair alternation a q h .1))
 placed t (many n e lazy r) h =
     wrap-placed t r (many n e lazy) (places none r) h (λ s. refl) (λ s. refl) (placed none r (whole-many n e lazy r h))

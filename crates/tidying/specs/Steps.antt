@@ -1,5 +1,5 @@
--- A step of the tidier over a table: a law is carried out at the part that was found, what it makes settles in the row that it
--- stands in, and the derived words are written anew.
+-- A step of the tidier over a table: a law is carried out at the part that was found, what it makes settles in the series that
+-- it stands in, and the derived words are written anew.
 use mathlib.Core.Path.{_≡_, sym, ap, subst, _∙_}
 use mathlib.Core.Option.{Option, none, some, Option·map, Option·none-ne-some, Option·some-injective}
 use mathlib.Core.List.{List, [], _∷_, _++_}
@@ -17,7 +17,7 @@ use Rattle.tidying_laws.specs.Found.{first-nth, places-records}
 use Rattle.tidying_laws.specs.ByNumber.{lawOf, law-at}
 use Rattle.tidying_laws.specs.Tidy.{Step, step}
 use Rattle.tidying_shapes.specs.Skeleton.{Token, skeletonIn, skeleton, width, token, inner-skeleton, pair-row, pair-in}
-use Rattle.tidying_shapes.specs.Skeleton.{alone as in-row}
+use Rattle.tidying_shapes.specs.Skeleton.{alone as in-series}
 use Rattle.tidying_shapes.specs.Tokens.{Says}
 use Rattle.tidying_shapes.specs.Laws.{says-length}
 use Rattle.tidying_shapes.specs.Told.{skeleton-count, stands-say}
@@ -66,12 +66,12 @@ spot-at : (r : Node) → Flat r → (top : ℕ) → IsPlace top (length (places 
 spot-at r f zero h = absurd (omega arith)
 spot-at r f (suc i) h = spots-at 0 (places none r) (placed none r f .1) i (suc i - 1) (omega arith) (omega arith)
 
--- A pattern alone has at most one token more than in a row.
-row-less : (k : Kind) (y : Node) → length (skeleton y) ≤ length (skeletonIn (some k) y) + 1
-row-less k = by-parts k (λ y l. length (skeleton y) ≤ length (skeletonIn (some k) y) + 1)
-    (λ r h. omega (arith, ap length (in-row k r h .0)))
+-- A pattern alone has at most one token more than in a series.
+series-less : (k : Kind) (y : Node) → length (skeleton y) ≤ length (skeletonIn (some k) y) + 1
+series-less k = by-parts k (λ y l. length (skeleton y) ≤ length (skeletonIn (some k) y) + 1)
+    (λ r h. omega (arith, ap length (in-series k r h .0)))
     (λ r q l e.
-    let row : length (skeletonIn (some k) (pair k r q)) ≡ length (skeleton r) + length (skeletonIn (some k) q)
+    let series : length (skeletonIn (some k) (pair k r q)) ≡ length (skeleton r) + length (skeletonIn (some k) q)
     = ap length (pair-row k r q) ∙ length-append (skeleton r) (skeletonIn (some k) q) in
     let own : length (skeleton (pair k r q)) ≡ length (skeleton r) + (length (skeletonIn (some k) q) + 1)
     = ap length (pair-in none k r q) ∙ simp length-append (omega arith) in
@@ -82,7 +82,7 @@ unsettled-less : (P : Parent none) (y : Node)
     → length (skeleton y) + length (behind P 1) ≤ length (skeletonIn (rowOf P) y ++ behind P (width (rowOf P) y)) + 1
 unsettled-less outermost y = simp length-append (omega arith)
 unsettled-less (alone tok rest) y = simp length-append (omega arith)
-unsettled-less (among k others later rest) y = simp length-append (omega (arith, row-less k y))
+unsettled-less (among k others later rest) y = simp length-append (omega (arith, series-less k y))
 
 -- Every pattern has a token.
 has-token : (y : Node) → 1 ≤ length (skeleton y)

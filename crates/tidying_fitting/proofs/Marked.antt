@@ -6,7 +6,7 @@ use Prim.Native.Nat.{ℕ, _-_}
 use lib.Dec.{eqb}
 use borrow.Author.Tests.{eq-eqb, ne-eqb}
 use Rattle.meaning.specs.Node.{Node, hi}
-use Rattle.table.specs.Table.{recordCount}
+use Rattle.table.specs.Table.{recordCount, emptyKind, sequenceKind, alternationKind}
 use Rattle.table.specs.Laws.{inner, kindOf}
 use Rattle.tidying_laws.specs.Groups.{groupFree, proper-positive}
 use Rattle.tidying_laws.specs.Alternatives.{past}
@@ -25,9 +25,9 @@ use Rattle.tidying_fitting.specs.declared.Mark.the-variants.{Void}
 use Rattle.tidying_fitting.proofs.Walked.{found-some}
 
 module _ {table : List ℕ} {top : ℕ} where
-  -- T1: an empty part has kind 1.
-  pub empty-told : {o : Record} → Tells o table top ownOf → Tells (eqb (o .kind) 1) table top isEmpty
-  empty-told t = record { by = λ before r p. ap (λ d. eqb (d .kind) 1) (t .by before r p) ∙ sym (empty-kind r) }
+  -- T1: an empty part is told by its kind.
+  pub empty-told : {o : Record} → Tells o table top ownOf → Tells (eqb (o .kind) emptyKind) table top isEmpty
+  empty-told t = record { by = λ before r p. ap (λ d. eqb (d .kind) emptyKind) (t .by before r p) ∙ sym (empty-kind r) }
 
   -- T6: a part with a group stays, and one without goes if it equals an earlier one.
   no-group : {o : Record} → Tells o table top ownOf → (before : List ℕ) (r : Node) → Ends table top before r → groupFree r ≡
@@ -70,22 +70,22 @@ module _ {table : List ℕ} {top : ℕ} where
   }
 
   -- T7: among alternatives, or among the items of a sequence without groups.
-  module _ {a : Bool} (t : Tells a table top (hasMarked 6 Void)) where
+  module _ {a : Bool} (t : Tells a table top (hasMarked alternationKind Void)) where
     alternatives : (r : Node) (before : List ℕ) → Ends table top before r → fits t7 r ≡
-        (a || (hasMarked 5 Void r && eqb (hi r) 0))
+        (a || (hasMarked sequenceKind Void r && eqb (hi r) 0))
     alternatives r before p =
         t7-marked r (p .proper) ∙ ap (λ b. b || (hasMarked 5 Void r && eqb (hi r) 0)) (sym (t .by before r p))
 
     pub void-alternative : a ≡ true → Tells true table top (fits t7)
     void-alternative e = record {
-      by = λ before r p. sym (alternatives r before p ∙ ap (λ b. b || (hasMarked 5 Void r && eqb (hi r) 0)) e);
+      by = λ before r p. sym (alternatives r before p ∙ ap (λ b. b || (hasMarked sequenceKind Void r && eqb (hi r) 0)) e);
     }
 
-    module _ (e : a ≡ false) {b : Bool} (u : Tells b table top (hasMarked 5 Void)) where
+    module _ (e : a ≡ false) {b : Bool} (u : Tells b table top (hasMarked sequenceKind Void)) where
       items : (r : Node) (before : List ℕ) → Ends table top before r → fits t7 r ≡ (b && eqb (hi r) 0)
       items r before p =
-          alternatives r before p ∙ ap (λ b. b || (hasMarked 5 Void r && eqb (hi r) 0)) e ∙ ap (λ b. b && eqb (hi r) 0)
-          (sym (u .by before r p))
+          alternatives r before p ∙ ap (λ b. b || (hasMarked sequenceKind Void r && eqb (hi r) 0)) e
+          ∙ ap (λ b. b && eqb (hi r) 0) (sym (u .by before r p))
 
       pub no-void : b ≡ false → Tells false table top (fits t7)
       no-void f = record { by = λ before r p. sym (items r before p ∙ ap (λ b. b && eqb (hi r) 0) f) }

@@ -1,4 +1,4 @@
--- From the walks over rows, and from the byte sets that were read, to what is told of the parts. Assumes nothing.
+-- From the walks over series, and from the byte sets that were read, to what is told of the parts. Assumes nothing.
 use mathlib.Core.Path.{_≡_, refl, sym, ap, subst, _∙_}
 use mathlib.Core.Bool.{Bool, false, not, false≢true}
 use mathlib.Core.Option.{Option, none, some}
@@ -12,6 +12,7 @@ use Rattle.sets.specs.Laws.{same-true, formed-same, same-words}
 use Rattle.sets.specs.Laws.{same-refl as sets-refl}
 use Rattle.meaning.specs.Node.{Node, Node.empty, Node.bset, Node.assert, Node.group, Node.seq, Node.alt, Node.many, Proper}
 use Rattle.meaning.specs.Flat.{Kind.sequence, parts, join}
+use Rattle.table.specs.Table.{setKind, sequenceKind}
 use Rattle.tidying_fitting.specs.Parts.{length-parts}
 use Rattle.table.specs.Laws.{inner, kindOf, lastOf}
 use Rattle.tidying_laws.specs.Void.{noBytes, no-bytes}
@@ -33,8 +34,8 @@ same-void s z f h = same-test (sameBytes s z) (noBytes s)
     (λ t. below-all 256 (λ b. not (has s b)) (λ b l. ap not (same-true s z t b l ∙ h .bytes b l)))
     (λ t. rw (formed-same s z f (h .formed) (λ b l. no-bytes s t b l ∙ sym (h .bytes b l))) (sets-refl z))
 
--- A part of kind 2 is a byte set.
-set-kind : (r : Node) → kindOf r ≡ 2 → r ≡ bset (lastOf r)
+-- A part of a byte set's kind is one.
+set-kind : (r : Node) → kindOf r ≡ setKind → r ≡ bset (lastOf r)
 set-kind empty e = absurd (omega arith)
 set-kind (bset s) e = refl
 set-kind (assert a) e = absurd (omega arith)
@@ -43,7 +44,7 @@ set-kind (seq r q) e = absurd (omega arith)
 set-kind (alt r q) e = absurd (omega arith)
 set-kind (many n f lazy r) e = absurd (omega arith)
 
-not-void : (r : Node) → (kindOf r ≡ 2 → ⊥) → false ≡ isVoid r
+not-void : (r : Node) → (kindOf r ≡ setKind → ⊥) → false ≡ isVoid r
 not-void empty h = refl
 not-void (bset s) h = absurd (h refl)
 not-void (assert a) h = refl
@@ -53,12 +54,11 @@ not-void (alt r q) h = refl
 not-void (many n e lazy r) h = refl
 
 module _ {table : List ℕ} {top : ℕ} where
-  pub other-kind : {o : Record} → Tells o table top ownOf → (o .kind ≡ 2 → ⊥) → Tells false table top isVoid
+  pub other-kind : {o : Record} → Tells o table top ownOf → (o .kind ≡ setKind → ⊥) → Tells false table top isVoid
   other-kind t h = record { by = λ before r p. not-void r (λ e. h (ap (λ d. d .kind) (t .by before r p) ∙ e)) }
 
-  pub void-told : {o : Record} → Tells o table top ownOf → o .kind ≡ 2 → {w z : List ℕ} → Tells w table top lastOf → Holds z
-      (λ x. false)
-      → {b : Bool} → b ≡ sameBytes w z → Tells b table top isVoid
+  pub void-told : {o : Record} → Tells o table top ownOf → o .kind ≡ setKind → {w z : List ℕ} → Tells w table top lastOf
+      → Holds z (λ x. false) → {b : Bool} → b ≡ sameBytes w z → Tells b table top isVoid
   void-told {o} t k {w} {z} u h {b} e = record {
     by = λ before r p. go r (p .proper)
         (sym (ap (λ d. d .kind) (t .by before r p)) ∙ k) (u .by before r p);
@@ -84,11 +84,11 @@ turn-part t = record { before = _; part = t .part; ends = last-ends (t .front) (
 
 -- A sequence has two items or more, and where one is left it is the first.
 pub record Passing (table : List ℕ) (top end left : ℕ) (before : List ℕ) (r : Node) : Type 0 where
-  pub sequence : kindOf r ≡ 5
+  pub sequence : kindOf r ≡ sequenceKind
   pub some : 1 ≤ left
   pub walk : Walk nothing (inner r) table end left before 0
 
-two-items : (r : Node) → kindOf r ≡ 5 → 2 ≤ length (inner r)
+two-items : (r : Node) → kindOf r ≡ sequenceKind → 2 ≤ length (inner r)
 unfolding inner
 two-items empty e = absurd (omega arith)
 two-items (bset s) e = absurd (omega arith)
@@ -98,7 +98,7 @@ two-items (seq r q) e = omega (arith, length-parts sequence q)
 two-items (alt r q) e = absurd (omega arith)
 two-items (many n m lazy r) e = absurd (omega arith)
 
-first-of : (r q : Node) (l : List Node) → kindOf r ≡ 5 → inner r ≡ q ∷ l → q ≡ firstItem r
+first-of : (r q : Node) (l : List Node) → kindOf r ≡ sequenceKind → inner r ≡ q ∷ l → q ≡ firstItem r
 unfolding inner
 first-of empty q l e f = absurd (omega arith)
 first-of (bset s) q l e f = absurd (omega arith)
@@ -108,7 +108,7 @@ first-of (seq r p) q l e f = cc
 first-of (alt r p) q l e f = absurd (omega arith)
 first-of (many n m lazy r) q l e f = absurd (omega arith)
 
-other-first : (r : Node) → (kindOf r ≡ 5 → ⊥) → firstItem r ≡ r
+other-first : (r : Node) → (kindOf r ≡ sequenceKind → ⊥) → firstItem r ≡ r
 other-first empty h = refl
 other-first (bset s) h = refl
 other-first (assert a) h = refl
@@ -117,17 +117,18 @@ other-first (seq r q) h = absurd (h refl)
 other-first (alt r q) h = refl
 other-first (many n e lazy r) h = refl
 
-pub first-alone : {table : List ℕ} {top : ℕ} {o : Record} → Tells o table top ownOf → (o .kind ≡ 5 → ⊥) → FirstEnds top table top
+pub first-alone : {table : List ℕ} {top : ℕ} {o : Record} → Tells o table top ownOf → (o .kind ≡ sequenceKind → ⊥)
+    → FirstEnds top table top
 first-alone {table} {top} t h = record {
   by = λ before r p. rw (other-first r (λ e. h (ap (λ d. d .kind) (t .by before r p) ∙ e))) p;
 }
 
 module _ {table : List ℕ} {top : ℕ} {before : List ℕ} {r : Node} where
-  pub pass-first : (p : Ends table top before r) {o : Record} → Tells o table top ownOf → o .kind ≡ 5 → Passing table top
-      (top - 1) (o .items) before r
+  pub pass-first : (p : Ends table top before r) {o : Record} → Tells o table top ownOf → o .kind ≡ sequenceKind
+      → Passing table top (top - 1) (o .items) before r
   pass-first p {o} t e =
       let own : o ≡ ownOf r = t .by before r p in
-      let kind : kindOf r ≡ 5 = sym (ap (λ d. d .kind) own) ∙ e in
+      let kind : kindOf r ≡ sequenceKind = sym (ap (λ d. d .kind) own) ∙ e in
       rw own (record { sequence = kind; some = omega (arith, two-items r kind); walk = begin nothing (inside p) })
 
   pub pass-turn : {end left : ℕ} → Passing table top end left before r → 1 < left → Turn nothing (inner r) table end left
@@ -189,7 +190,7 @@ same-sets s u f g = same-test (sameBytes s u) (same (bset u) (bset s))
     (λ t. rw (same-words s u f g t) (same-refl (bset u)))
     (λ t. let e : bset u ≡ bset s = same-eq (bset u) (bset s) t in rw (ap lastOf e) (sets-refl s))
 
-not-set : (r : Node) → (kindOf r ≡ 2 → ⊥) → byteSet r ≡ none
+not-set : (r : Node) → (kindOf r ≡ setKind → ⊥) → byteSet r ≡ none
 not-set empty h = refl
 not-set (bset s) h = absurd (h refl)
 not-set (assert a) h = refl
@@ -198,7 +199,7 @@ not-set (seq r q) h = refl
 not-set (alt r q) h = refl
 not-set (many n e lazy r) h = refl
 
-none-alike : (o : Option (List ℕ)) (y : Node) → (kindOf y ≡ 2 → ⊥) → false ≡ sameSet o y
+none-alike : (o : Option (List ℕ)) (y : Node) → (kindOf y ≡ setKind → ⊥) → false ≡ sameSet o y
 none-alike none y h = refl
 none-alike (some s) y h =
     sym (same-test (same y (bset s)) false (λ t. absurd (h (ap kindOf (same-eq y (bset s) t)))) (λ t. absurd (false≢true t)))
@@ -215,15 +216,15 @@ module _ {table : List ℕ} {one other a b : ℕ} (fa : FirstEnds a table one) (
         h before before′ (firstItem p) (firstItem q) (fa .by before p hp) (fb .by before′ q hq) ∙ sym (alike-first p q);
   }
 
-  pub first-differs : {o : Record} → Tells o table a ownOf → (o .kind ≡ 2 → ⊥) → TellsBoth false table one other alike
+  pub first-differs : {o : Record} → Tells o table a ownOf → (o .kind ≡ setKind → ⊥) → TellsBoth false table one other alike
   first-differs t h = alike-by (λ before before′ p q hp hq.
       sym (ap (λ o. sameSet o q) (not-set p (λ e. h (ap (λ d. d .kind) (t .by before p hp) ∙ e)))))
 
-  pub second-differs : {o : Record} → Tells o table b ownOf → (o .kind ≡ 2 → ⊥) → TellsBoth false table one other alike
+  pub second-differs : {o : Record} → Tells o table b ownOf → (o .kind ≡ setKind → ⊥) → TellsBoth false table one other alike
   second-differs t h = alike-by (λ before before′ p q hp hq.
       none-alike (byteSet p) q (λ e. h (ap (λ d. d .kind) (t .by before′ q hq) ∙ e)))
 
-  pub sets-told : {o u : Record} → Tells o table a ownOf → o .kind ≡ 2 → Tells u table b ownOf → u .kind ≡ 2
+  pub sets-told : {o u : Record} → Tells o table a ownOf → o .kind ≡ setKind → Tells u table b ownOf → u .kind ≡ setKind
       → {v w : List ℕ} → Tells v table a lastOf → Tells w table b lastOf → {x : Bool} → x ≡ sameBytes v w → TellsBoth x table
       one other alike
   sets-told t k t′ k′ {v} {w} s u {x} e = alike-by (λ before before′ p q hp hq.

@@ -68,12 +68,12 @@ record Quantifier (table : List ℕ) (top : ℕ) (before : List ℕ) (r : Node) 
   ends : Ends table (top - 1) before part
   on : (f : Node → Node → Bool) → onPart f r ≡ f r part
 
-quantifier : {table : List ℕ} {top : ℕ} {before : List ℕ} {r : Node} → Ends table top before r → kindOf r ≡ 7 → Quantifier
-    table top before r
+quantifier : {table : List ℕ} {top : ℕ} {before : List ℕ} {r : Node} → Ends table top before r → kindOf r ≡ quantifierKind
+    → Quantifier table top before r
 unfolding inner
 quantifier {table} {top} {before} {r} p e = go r e p
   where
-    go : (r : Node) → kindOf r ≡ 7 → Ends table top before r → Quantifier table top before r
+    go : (r : Node) → kindOf r ≡ quantifierKind → Ends table top before r → Quantifier table top before r
     go empty e p = absurd (omega arith)
     go (bset s) e p = absurd (omega arith)
     go (assert a) e p = absurd (omega arith)
@@ -83,7 +83,7 @@ quantifier {table} {top} {before} {r} p e = go r e p
     go (many n e lazy q) h p = record { part = q; ends = rw append-nil at (last-ends [] q (inside p)); on = λ f. refl }
 
 -- A part fails a test of a quantifier and its part if it is none, or if it fails whatever its part is.
-not-quantifier : (f : Node → Node → Bool) (r : Node) → (kindOf r ≡ 7 → ⊥) → false ≡ onPart f r
+not-quantifier : (f : Node → Node → Bool) (r : Node) → (kindOf r ≡ quantifierKind → ⊥) → false ≡ onPart f r
 not-quantifier f empty h = refl
 not-quantifier f (bset s) h = refl
 not-quantifier f (assert a) h = refl
@@ -101,7 +101,7 @@ never f (seq r q) h = refl
 never f (alt r q) h = refl
 never f (many n e lazy q) h = sym (h q)
 
-passed : (f : Node → Node → Bool) (r : Node) → onPart f r ≡ true → kindOf r ≡ 7
+passed : (f : Node → Node → Bool) (r : Node) → onPart f r ≡ true → kindOf r ≡ quantifierKind
 passed f empty h = absurd (false≢true h)
 passed f (bset s) h = absurd (false≢true h)
 passed f (assert a) h = absurd (false≢true h)
@@ -112,15 +112,16 @@ passed f (many n e lazy q) h = refl
 
 -- Whatever part ends at `top` is a quantifier.
 pub record Quantified (table : List ℕ) (top : ℕ) : Type 0 where
-  by : (before : List ℕ) (r : Node) → Ends table top before r → kindOf r ≡ 7
+  by : (before : List ℕ) (r : Node) → Ends table top before r → kindOf r ≡ quantifierKind
 
 module _ {table : List ℕ} {top : ℕ} where
-  pub quantified-kind : {o : Record} → Tells o table top ownOf → o .kind ≡ 7 → Quantified table top
+  pub quantified-kind : {o : Record} → Tells o table top ownOf → o .kind ≡ quantifierKind → Quantified table top
   quantified-kind t e = record { by = λ before r p. sym (ap (λ d. d .kind) (t .by before r p)) ∙ e }
 
   pub quantified-ranged : {o : Record} (most : ℕ) → Tells o table top ownOf → ranged o most ≡ true → Quantified table top
   quantified-ranged {o} most t e =
-      quantified-kind t (eqb-true (o .kind) 7 (and-true (eqb (o .kind) 7) (eqb (o .least) 0 && eqb (o .most) most) e .0))
+      quantified-kind t (eqb-true (o .kind) quantifierKind
+      (and-true (eqb (o .kind) quantifierKind) (eqb (o .least) 0 && eqb (o .most) most) e .0))
 
   pub quantified-passed : {b : Bool} (f : Node → Node → Bool) → Tells b table top (onPart f) → b ≡ true → Quantified table top
   quantified-passed f t e = record { by = λ before r p. passed f r (sym (t .by before r p) ∙ e) }
@@ -142,8 +143,8 @@ module _ {table : List ℕ} {top : ℕ} where
         (q .on (λ r q. f (ownOf r) (ownOf q)));
   }
 
-  pub off-kind : (f : Node → Node → Bool) {o : Record} → Tells o table top ownOf → (o .kind ≡ 7 → ⊥) → Tells false table top
-      (onPart f)
+  pub off-kind : (f : Node → Node → Bool) {o : Record} → Tells o table top ownOf → (o .kind ≡ quantifierKind → ⊥)
+      → Tells false table top (onPart f)
   off-kind f t h = record { by = λ before r p. not-quantifier f r (λ e. h (ap (λ d. d .kind) (t .by before r p) ∙ e)) }
 
   pub off-ranged : {o : Record} (most : ℕ) → Tells o table top ownOf → ranged o most ≡ false → Tells false table top

@@ -8,7 +8,7 @@ use lib.Dec.{eqb}
 use Rattle.meaning.specs.Node.{Node, Node.empty, Node.bset, Node.assert, Node.group, Node.seq, Node.alt, Node.many, hi, Proper}
 use Rattle.meaning.specs.Flat.{Kind, Kind.sequence, Kind.alternation, parts, join, by-parts}
 use Rattle.meaning.specs.Results.{orElse, orElse-none}
-use Rattle.table.specs.Table.{recordCount}
+use Rattle.table.specs.Table.{recordCount, sequenceKind, alternationKind}
 use Rattle.table.specs.Laws.{inner, kindOf}
 use Rattle.tidying_laws.specs.Choices.{any}
 use Rattle.tidying_laws.specs.Groups.{groupFree, proper-positive}
@@ -163,7 +163,7 @@ share-leftmost seen r (q ∷ l) =
 two-parts : {A : Type 0} (k : Kind) (f : List Node → Option A) (r q : Node) → two f (r ∷ parts k q) ≡ f (r ∷ parts k q)
 two-parts k f r q = by-parts k (λ q l. two f (r ∷ l) ≡ f (r ∷ l)) (λ q n. refl) (λ p q l e. refl) q
 
-pub t1-marked : (r : Node) → fits t1 r ≡ hasMarked 5 Empty r
+pub t1-marked : (r : Node) → fits t1 r ≡ hasMarked sequenceKind Empty r
 unfolding parts inner
 t1-marked empty = refl
 t1-marked (bset s) = refl
@@ -175,7 +175,7 @@ t1-marked (seq r q) = let l : List Node = r ∷ parts sequence q in
 t1-marked (alt r q) = refl
 t1-marked (many n e lazy r) = refl
 
-pub t6-marked : (r : Node) → fits t6 r ≡ hasMarked 6 Equal r
+pub t6-marked : (r : Node) → fits t6 r ≡ hasMarked alternationKind Equal r
 unfolding parts inner
 t6-marked empty = refl
 t6-marked (bset s) = refl
@@ -187,7 +187,7 @@ t6-marked (alt r q) = let l : List Node = r ∷ parts alternation q in
     ∙ map-some (join alternation) (distinct [] l) ∙ ap isSome (distinct-leftmost [] l) ∙ map-some without (leftmost goes [] l)
 t6-marked (many n e lazy r) = refl
 
-pub t8-marked : (r : Node) → fits t8 r ≡ hasMarked 6 Alike r
+pub t8-marked : (r : Node) → fits t8 r ≡ hasMarked alternationKind Alike r
 unfolding parts inner
 t8-marked empty = refl
 t8-marked (bset s) = refl

@@ -12,7 +12,7 @@ use Rattle.meaning.specs.Node.{Node, Node.empty, Node.bset, Node.assert, Node.g
 use Rattle.meaning.specs.Node.{Within}
 use Rattle.meaning.specs.Results.{orElse}
 use Rattle.meaning.specs.Limits.{noMaximum}
-use Rattle.table.specs.Table.{recordCount, maximum, bitOf}
+use Rattle.table.specs.Table.{recordCount, maximum, bitOf, emptyKind, assertionKind, quantifierKind}
 use Rattle.table.specs.Laws.{inner, kindOf, lastOf}
 use Rattle.tidying_laws.specs.Groups.{groups, Positive, proper-positive, positive-both, groupFree, free-groups, same-high}
 use Rattle.tidying_laws.specs.Equal.{same, same-eq, same-refl}
@@ -95,7 +95,7 @@ isOver k = onPart (λ r q. eqb (kindOf q) k)
 
 -- Whether a record is that of a quantifier of 0 to `most`.
 abbrev pub ranged : Record → ℕ → Bool
-ranged part most = eqb (part .kind) 7 && (eqb (part .least) 0 && eqb (part .most) most)
+ranged part most = eqb (part .kind) quantifierKind && (eqb (part .least) 0 && eqb (part .most) most)
 
 -- Whether a part is a quantifier of 0 to `most` over another such one, with no group.
 abbrev pub nestedIn : ℕ → Record → Record → Bool
@@ -106,7 +106,8 @@ isNested most = onPart (λ r q. nestedIn most (ownOf r) (ownOf q))
 
 -- T2: the counts are the same, and at most 1.
 abbrev pub onceOrNever : Record → Bool
-onceOrNever part = eqb (part .kind) 7 && (eqb (part .least) (part .most) && (leb (part .least) 1 && eqb (part .highest) 0))
+onceOrNever part = eqb (part .kind) quantifierKind
+    && (eqb (part .least) (part .most) && (leb (part .least) 1 && eqb (part .highest) 0))
 
 once : (n : ℕ) (e : Option ℕ) (b : Bool) (q : Node) → Within n e
     → isSome (orElse (when (counts n e 1 (some 0) && b) q) (when (counts n e 0 (some 0) && b) empty))
@@ -138,11 +139,11 @@ t2-words (seq r q) h = refl
 t2-words (alt r q) h = refl
 t2-words (many n e lazy r) h = rw (← free-highest r (proper-positive r (h .1))) (sym (once n e (groupFree r) r (h .0)))
 
--- T3: only an empty part has kind 1.
-pub empty-kind : (r : Node) → isEmpty r ≡ eqb (kindOf r) 1
-empty-kind r = same-test (isEmpty r) (eqb (kindOf r) 1) (λ t. rw (same-eq r empty t)) (back r)
+-- T3: only an empty part has the kind of one.
+pub empty-kind : (r : Node) → isEmpty r ≡ eqb (kindOf r) emptyKind
+empty-kind r = same-test (isEmpty r) (eqb (kindOf r) emptyKind) (λ t. rw (same-eq r empty t)) (back r)
   where
-    back : (r : Node) → eqb (kindOf r) 1 ≡ true → isEmpty r ≡ true
+    back : (r : Node) → eqb (kindOf r) emptyKind ≡ true → isEmpty r ≡ true
     back empty t = same-refl empty
     back (bset s) t = absurd (false≢true t)
     back (assert a) t = absurd (false≢true t)
@@ -151,7 +152,7 @@ empty-kind r = same-test (isEmpty r) (eqb (kindOf r) 1) (λ t. rw (same-eq r emp
     back (alt r q) t = absurd (false≢true t)
     back (many n e lazy r) t = absurd (false≢true t)
 
-pub t3-over : (r : Node) → fits t3 r ≡ isOver 1 r
+pub t3-over : (r : Node) → fits t3 r ≡ isOver emptyKind r
 t3-over empty = refl
 t3-over (bset s) = refl
 t3-over (assert a) = refl
@@ -160,8 +161,8 @@ t3-over (seq r q) = refl
 t3-over (alt r q) = refl
 t3-over (many n e lazy r) = when-some (isEmpty r) empty ∙ empty-kind r
 
--- T4: only an assertion has kind 3.
-pub t4-over : (r : Node) → fits t4 r ≡ isOver 3 r
+-- T4: only an assertion has the kind of one.
+pub t4-over : (r : Node) → fits t4 r ≡ isOver assertionKind r
 t4-over empty = refl
 t4-over (bset s) = refl
 t4-over (assert a) = refl
@@ -170,7 +171,7 @@ t4-over (seq r q) = refl
 t4-over (alt r q) = refl
 t4-over (many n e lazy r) = by r
   where
-    by : (r : Node) → isSome (onAssert (λ a. some (cond (eqb n 0) empty (assert a))) r) ≡ eqb (kindOf r) 3
+    by : (r : Node) → isSome (onAssert (λ a. some (cond (eqb n 0) empty (assert a))) r) ≡ eqb (kindOf r) assertionKind
     by empty = refl
     by (bset s) = refl
     by (assert a) = refl
@@ -217,8 +218,9 @@ shuffle true false c d = refl
 shuffle false b c d = refl
 
 -- Where a quantifier's part is no quantifier, it is not nested.
-unnested : (most : ℕ) (o : Record) (q : Node) (b : Bool) → (kindOf q ≡ 7 → ⊥) → false ≡ (nestedIn most o (ownOf q) && b)
-unnested most o q b h = rw (ne-eqb (kindOf q) 7 h, and-false (ranged o most))
+unnested : (most : ℕ) (o : Record) (q : Node) (b : Bool) → (kindOf q ≡ quantifierKind → ⊥)
+    → false ≡ (nestedIn most o (ownOf q) && b)
+unnested most o q b h = rw (ne-eqb (kindOf q) quantifierKind h, and-false (ranged o most))
 
 module _ (more : Option ℕ) (most : ℕ) (lazyTest : Bool → Bool → Bool) (wordTest : ℕ → ℕ → Bool)
     (counted : (n : ℕ) (e : Option ℕ) (lazy : Bool) (q : Node) → Within n e → counts n e 0 more ≡ ranged

@@ -67,7 +67,7 @@ light-cost : (k : Kind) (r q : Node) → Light r q → cost k q ≤ cost k r
 light-cost sequence r q h = h .item
 light-cost alternation r q h = omega (arith, h .alone)
 
--- It is so if it costs no more in a row of the kind that the part is charged like.
+-- It is so if it costs no more in a series of the kind that the part is charged like.
 abbrev pub outer : Kind → ℕ
 outer sequence = 0
 outer alternation = 1

@@ -18,6 +18,12 @@ use Rattle.tidying_laws.specs.Laws.{share}
 use Rattle.tidying_laws.specs.Refuted.{letter, a, b, star, option}
 use Rattle.tidying_laws.specs.Tidier.{places, lowest, found, tidyStep, tidies, tidy}
 
+-- All that the tidier computes by: to unfold this is to unfold them.
+unfoldable pub computed : Unit {0}
+unfolding tidy tidies tidyStep found lowest laws places weight parts same decList decOption ℕ-discrete
+    groupFree groups filled distinct possible run glues share noBytes has bit
+computed = tt
+
 abbrev c : Node
 c = letter 0x8
 
@@ -89,8 +95,7 @@ table =
     ∷ []
 
 vectors : map (λ t. tidy (t .0)) table ≡ map (λ t. t .1) table
-unfolding tidy tidies tidyStep found lowest laws places weight parts same decList decOption ℕ-discrete
-    groupFree groups filled distinct possible run glues share noBytes has bit
+unfolding computed
 vectors = refl
 
 -- Patterns that no law fits.
@@ -119,8 +124,7 @@ tidied =
     ∷ []
 
 stay : map found tidied ≡ map (λ r. none) tidied
-unfolding found lowest laws places parts same decList decOption ℕ-discrete
-    groupFree groups filled distinct possible run glues share noBytes has bit
+unfolding computed
 stay = refl
 
 -- The place and the law that a search ends at: of (?:a*)*|b|b the third part, by T5, and then the fifth, by T6;
@@ -128,8 +132,7 @@ stay = refl
 steps : (found (alt (star false (star false a)) (alt b b)) ≡ some (3, (5, alt (star false a) (alt b b))))
     × (found (alt (star false a) (alt b b)) ≡ some (5, (6, alt (star false a) b)))
     × (found (alt a (alt (seq a b) (alt c (seq c d)))) ≡ some (9, (8, alt (seq a (alt empty b)) (alt c (seq c d)))))
-unfolding found lowest laws places parts same decList decOption ℕ-discrete
-    groupFree groups filled distinct possible run glues share noBytes has bit
+unfolding computed
 steps = (refl, refl, refl)
 
 -- Only T8 can take more records: a|abc|d takes 7, and tidied 9.

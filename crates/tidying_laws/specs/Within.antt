@@ -31,10 +31,10 @@ module _ {κ} (P : Node → Type κ) where
   nest f (p ∷ l) m h = let (a, b) = nest f l m (h .1) in ((h .0, a), b)
 
   -- at those of a sequence's or an alternation's first part, of what comes after it, and of the whole;
-  row : (t : Option Kind) (k : Kind) (r q : Node) (l m : List Place)
+  series : (t : Option Kind) (k : Kind) (r q : Node) (l m : List Place)
       → Parts (map (inside (λ p. glue k p q)) l ++ (map (inside (pair k r)) m ++ whole t k (pair k r q)))
       → Parts l × Parts m × Parts (whole t k (pair k r q))
-  row t k r q l m h =
+  series t k r q l m h =
       let (a, b) = nest (λ p. glue k p q) l (map (inside (pair k r)) m ++ whole t k (pair k r q)) h in
       let (c, d) = nest (pair k r) m (whole t k (pair k r q)) b in
       (a, c, d)
@@ -54,8 +54,8 @@ module _ {κ} (P : Node → Type κ) where
   top t (bset a) s h = h .0
   top t (assert a) s h = h .0
   top t (group k r) s h = nest (group k) (places none r) (itself (group k r) ∷ []) h .1 .0
-  top t (seq r q) s h = entire t sequence r q s (row t sequence r q (places none r) (places (some sequence) q) h .2)
-  top t (alt r q) s h = entire t alternation r q s (row t alternation r q (places none r) (places (some alternation) q) h .2)
+  top t (seq r q) s h = entire t sequence r q s (series t sequence r q (places none r) (places (some sequence) q) h .2)
+  top t (alt r q) s h = entire t alternation r q s (series t alternation r q (places none r) (places (some alternation) q) h .2)
   top t (many n e lazy r) s h = nest (many n e lazy) (places none r) (itself (many n e lazy r) ∷ []) h .1 .0
 
   -- What holds of the parts at all places holds of every part.
@@ -65,12 +65,12 @@ module _ {κ} (P : Node → Type κ) where
   everywhere t (inGroup k a) q s h = let r : Node = fill a q in
       everywhere none a q s (nest (group k) (places none r) (itself (group k r) ∷ []) h .0)
   everywhere t (before a p) q s h = let r : Node = fill a q in
-      everywhere none a q s (row t sequence r p (places none r) (places (some sequence) p) h .0)
+      everywhere none a q s (series t sequence r p (places none r) (places (some sequence) p) h .0)
   everywhere t (after p a) q s h = let r : Node = fill a q in
-      everywhere (some sequence) a q s (row t sequence p r (places none p) (places (some sequence) r) h .1)
+      everywhere (some sequence) a q s (series t sequence p r (places none p) (places (some sequence) r) h .1)
   everywhere t (above a p) q s h = let r : Node = fill a q in
-      everywhere none a q s (row t alternation r p (places none r) (places (some alternation) p) h .0)
+      everywhere none a q s (series t alternation r p (places none r) (places (some alternation) p) h .0)
   everywhere t (below p a) q s h = let r : Node = fill a q in
-      everywhere (some alternation) a q s (row t alternation p r (places none p) (places (some alternation) r) h .1)
+      everywhere (some alternation) a q s (series t alternation p r (places none p) (places (some alternation) r) h .1)
   everywhere t (inMany n e lazy a) q s h = let r : Node = fill a q in
       everywhere none a q s (nest (many n e lazy) (places none r) (itself (many n e lazy r) ∷ []) h .0)

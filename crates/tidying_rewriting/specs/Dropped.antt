@@ -29,7 +29,7 @@ use Rattle.tidying_rewriting.specs.Rewriting.{some-wide}
 use Rattle.tidying_rewriting.specs.Rewriting.{within, own-word}
 use Rattle.tidying_rewriting.specs.Own.{own-said, inside-here}
 use Rattle.tidying_rewriting.specs.Frames.{Cut}
-use Rattle.tidying_rewriting.specs.Rows.{skeletons-count, skeletons-append, Rejoins, Rejoining, joined}
+use Rattle.tidying_rewriting.specs.Series.{skeletons-count, skeletons-append, Rejoins, Rejoining, joined}
 use Rattle.tidying_rewriting.specs.Dropping.{dropping, Drop, drop-of, void-alternation, void-sequence}
 
 -- A part inside a part that is placed: where its records end.
@@ -109,11 +109,11 @@ module _ (mark : Mark) {table : List ℕ} {n top : ℕ} {before : List ℕ} {x y
       record { before = before ++ concatMap records (drop .at .front); part = drop .at .part; ends = drop-ends t }
 
   pub drop-at : {end from items : ℕ} → Tells end table top (markedEnd mark top)
-      → Tells from table end (startOf end) → items ≡ getD table (recordWords * (top - 1) + 3) 0
+      → Tells from table end (startOf end) → items ≡ getD table (recordWords * (top - 1) + itemsWord) 0
       → DropAt mark n top x y l end from items
   drop-at {end} {from} {items} t s e =
       let started : from ≡ end - recordCount (drop .at .part) = s .by _ _ (drop-ends t) in
-      let all : items ≡ length (inner x) = e ∙ own-word (fit .placed) 3 (omega arith) in
+      let all : items ≡ length (inner x) = e ∙ own-word (fit .placed) itemsWord (omega arith) in
       let stop : end ≡ ended = drop-end t in
       let one = ap length (drop .split) in
       let low = within (fit .placed) in
@@ -188,7 +188,7 @@ module _ {mark : Mark} {table table′ : List ℕ} {n top n′ end from items : 
 
 pub drops : (mark : Mark) {table table₁ table₂ : List ℕ} {n top n₁ n₂ end from items : ℕ}
     → Tells end table top (markedEnd mark top) → Tells from table end (startOf end)
-    → items ≡ getD table (recordWords * (top - 1) + 3) 0 → Cut table table₁ n from (end - from) n₁
+    → items ≡ getD table (recordWords * (top - 1) + itemsWord) 0 → Cut table table₁ n from (end - from) n₁
     → Rejoins table₁ table₂ n₁ (top + n₁ - n) (items - 1) n₂ → Rewrites (dropping mark) table table₂ n top n₂
 drops mark t s e cut c = record {
   by = λ before x y l m fit.
@@ -197,19 +197,20 @@ drops mark t s e cut c = record {
 }
 
 -- T7, by the kind of the part: a sequence becomes the empty set.
-pub voids : {table table₁ : List ℕ} {n top n′ w : ℕ} → w ≡ getD table (recordWords * (top - 1) + 0) 0 → w ≡ 5
-    → Shrinks table table₁ n top 2 n′ → Rewrites t7 table table₁ n top n′
+pub voids : {table table₁ : List ℕ} {n top n′ w : ℕ} → w ≡ getD table (recordWords * (top - 1) + kindWord) 0 → w ≡ sequenceKind
+    → Shrinks table table₁ n top setKind n′ → Rewrites t7 table table₁ n top n′
 unfolding skeletonIn inner
 voids e z s = record {
   by = λ before x y l m f.
-      let kind : kindOf x ≡ 5 = sym (own-word (f .placed) 0 (omega arith)) ∙ sym e ∙ z in
+      let kind : kindOf x ≡ sequenceKind = sym (own-word (f .placed) kindWord (omega arith)) ∙ sym e ∙ z in
       rw (ok-some (λ y. y ≡ bset void) (f .fits) (void-sequence x kind)) (s .by before x l m (f .placed));
 }
 
 -- And of an alternation the leftmost empty set goes.
-module _ {table : List ℕ} {n top w : ℕ} (e : w ≡ getD table (recordWords * (top - 1) + 0) 0) (z : w ≡ 5 → ⊥) where
-  other : {before : List ℕ} {x : Node} {l m : List Token} → Placed table n top before x l m → kindOf x ≡ 5 → ⊥
-  other p h = z (e ∙ own-word p 0 (omega arith) ∙ h)
+module _ {table : List ℕ} {n top w : ℕ} (e : w ≡ getD table (recordWords * (top - 1) + kindWord) 0)
+    (z : w ≡ sequenceKind → ⊥) where
+  other : {before : List ℕ} {x : Node} {l m : List Token} → Placed table n top before x l m → kindOf x ≡ sequenceKind → ⊥
+  other p h = z (e ∙ own-word p kindWord (omega arith) ∙ h)
 
   pub void-fits : SomeFitting t7 table n top → SomeFitting (dropping Void) table n top
   void-fits s = some-wide s (void-alternation (s .node) (other (s .fitting .placed)))

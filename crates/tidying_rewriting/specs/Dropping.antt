@@ -7,6 +7,7 @@ use native.Mathlib.Omega.{arith}
 use lib.ListN.{length}
 use Rattle.meaning.specs.Node.{Node, Node.empty, Node.bset, Node.assert, Node.group, Node.seq, Node.alt, Node.many}
 use Rattle.meaning.specs.Flat.{Kind.sequence, Kind.alternation, parts, join}
+use Rattle.table.specs.Table.{sequenceKind}
 use Rattle.table.specs.Laws.{inner, kindOf}
 use Rattle.tidying_laws.specs.Choices.{any}
 use Rattle.tidying_laws.specs.Groups.{groupFree}
@@ -19,7 +20,7 @@ use Rattle.tidying_fitting.specs.declared.Mark.{Mark}
 use Rattle.tidying_fitting.specs.declared.Mark.the-variants.{Equal, Void}
 use Rattle.tidying_shapes.specs.Skeleton.{token, rowToken}
 use Rattle.tidying_rewriting.specs.Rewriting.{Rule, Narrower, ok-same, narrower-same, ok-some}
-use Rattle.tidying_rewriting.specs.Rows.{RowOf, row-of}
+use Rattle.tidying_rewriting.specs.Series.{SeriesOf, series-of}
 
 -- The law that drops the leftmost alternative that passes a test.
 abbrev withoutMarked : Mark → List Node → Option Node
@@ -49,7 +50,7 @@ t6-drops =
     let f : List Node → Option Node = λ l. Option·map (join alternation) (distinct [] l) in
     narrower-same (λ x. two-same f (withoutMarked Equal) distinct-drops (parts alternation x))
 
-pub void-alternation : (x : Node) → (kindOf x ≡ 5 → ⊥) → Ok (λ y. dropping Void x ≡ some y) (t7 x)
+pub void-alternation : (x : Node) → (kindOf x ≡ sequenceKind → ⊥) → Ok (λ y. dropping Void x ≡ some y) (t7 x)
 unfolding parts
 void-alternation empty h = tt
 void-alternation (bset s) h = tt
@@ -64,7 +65,7 @@ void-alternation (alt r q) h =
 void-alternation (many n e lazy r) h = tt
 
 -- T7 makes a sequence the empty set.
-pub void-sequence : (x : Node) → kindOf x ≡ 5 → Ok (λ y. y ≡ bset void) (t7 x)
+pub void-sequence : (x : Node) → kindOf x ≡ sequenceKind → Ok (λ y. y ≡ bset void) (t7 x)
 unfolding parts
 void-sequence empty h = absurd (omega arith)
 void-sequence (bset s) h = absurd (omega arith)

@@ -25,7 +25,7 @@ use Rattle.tidying_shapes.specs.Tokens.{Says}
 use Rattle.tidying_shapes.specs.Laws.{says-length}
 use Rattle.tidying_rewriting.specs.Rewriting.{Placed, Fitting, SomeFitting, Rewrites, ok-some, count}
 use Rattle.tidying_rewriting.specs.Frames.{Cut}
-use Rattle.tidying_rewriting.specs.Rows.{RowOf, row-of, Rejoins, Rejoining, joined}
+use Rattle.tidying_rewriting.specs.Series.{SeriesOf, series-of, Rejoins, Rejoining, joined}
 use Rattle.tidying_rewriting.specs.Walks.{Walked, walk-start, Turned, turned, last-word}
 
 -- Of the items behind those still to be walked the filled ones are left, `kept` of them.
@@ -38,7 +38,7 @@ pub record Filling (table : List ℕ) (n end left kept : ℕ) (before : List ℕ
 
 module _ {table : List ℕ} {n : ℕ} {before : List ℕ} {x : Node} {l m : List Token} where
   -- It begins with no item behind,
-  pub filling-start : {top w : ℕ} → Placed table n top before x l m → w ≡ getD table (recordWords * (top - 1) + 3) 0
+  pub filling-start : {top w : ℕ} → Placed table n top before x l m → w ≡ getD table (recordWords * (top - 1) + itemsWord) 0
       → Filling table n (top - 1) w 0 before x l m
   unfolding filled
   filling-start p e = record {
@@ -69,21 +69,21 @@ module _ {table : List ℕ} {n : ℕ} {before : List ℕ} {x : Node} {l m : List
     split-more : inner x ≡ front ++ (item ∷ f .more)
     split-more = f .split ∙ ap (λ r. r ++ f .more) (last .split) ∙ append-assoc front (item ∷ []) (f .more)
 
-    gone : kindOf item ≡ 1 → (item ≡ empty) × (filled (item ∷ f .more) ≡ filled (f .more))
+    gone : kindOf item ≡ emptyKind → (item ≡ empty) × (filled (item ∷ f .more) ≡ filled (f .more))
     unfolding filled
     gone e =
-        let passes : isEmpty item ≡ true = empty-kind item ∙ eq-eqb (kindOf item) 1 e in
+        let passes : isEmpty item ≡ true = empty-kind item ∙ eq-eqb (kindOf item) emptyKind e in
         (same-eq item empty passes, rw passes)
 
-    stays : (kindOf item ≡ 1 → ⊥) → filled (item ∷ f .more) ≡ item ∷ filled (f .more)
+    stays : (kindOf item ≡ emptyKind → ⊥) → filled (item ∷ f .more) ≡ item ∷ filled (f .more)
     unfolding filled
-    stays e = rw (empty-kind item ∙ ne-eqb (kindOf item) 1 e)
+    stays e = rw (empty-kind item ∙ ne-eqb (kindOf item) emptyKind e)
 
-    pub filling-gone : {table′ : List ℕ} {w n′ : ℕ} → w ≡ getD table (recordWords * (end - 1) + 0) 0 → w ≡ 1
+    pub filling-gone : {table′ : List ℕ} {w n′ : ℕ} → w ≡ getD table (recordWords * (end - 1) + kindWord) 0 → w ≡ emptyKind
         → Cut table table′ n (end - 1) 1 n′ → Filling table′ n′ (end - 1) (left - 1) kept before x l m
     unfolding recordsIn skeletonIn
     filling-gone {table′} {w} {n′} e z cut =
-        let (is, same) = gone (sym (last-word turn 0 (omega arith)) ∙ sym e ∙ z) in
+        let (is, same) = gone (sym (last-word turn kindWord (omega arith)) ∙ sym e ∙ z) in
         let one : recordCount item ≡ 1 = ap recordCount is in
         let ts : List Token = concatMap skeleton (filled (item ∷ f .more)) ++ (token x ∷ m) in
         let tokens : List Token = concatMap skeleton front in
@@ -100,11 +100,11 @@ module _ {table : List ℕ} {n : ℕ} {before : List ℕ} {x : Node} {l m : List
           counted = f .counted ∙ ap length (sym same);
         }
 
-    pub filling-kept : {v w : ℕ} → w ≡ getD table (recordWords * (end - 1) + 0) 0 → (w ≡ 1 → ⊥)
-        → v ≡ getD table (recordWords * (end - 1) + 2) 0 → Filling table n (end - v) (left - 1) (kept + 1) before x l m
+    pub filling-kept : {v w : ℕ} → w ≡ getD table (recordWords * (end - 1) + kindWord) 0 → (w ≡ emptyKind → ⊥)
+        → v ≡ getD table (recordWords * (end - 1) + recordsWord) 0 → Filling table n (end - v) (left - 1) (kept + 1) before x l m
     filling-kept {v} {w} e z r =
-        let same = stays (λ k. z (e ∙ last-word turn 0 (omega arith) ∙ k)) in
-        let all : v ≡ recordCount item = r ∙ last-word turn 2 (omega arith) in
+        let same = stays (λ k. z (e ∙ last-word turn kindWord (omega arith) ∙ k)) in
+        let all : v ≡ recordCount item = r ∙ last-word turn recordsWord (omega arith) in
         let ts : List Token = concatMap skeleton (filled (item ∷ f .more)) ++ (token x ∷ m) in
         let says : Says table n (l ++ (concatMap skeleton front ++ ts)) = rw (same, append-assoc) (turn .says) in
         record {
@@ -119,8 +119,8 @@ module _ {table : List ℕ} {n : ℕ} {before : List ℕ} {x : Node} {l m : List
     pub item-there : (0 < end) × (end ≤ n) × (recordWords * n ≤ length table)
     item-there = omega (arith, turn .some, turn .few, turn .under, turn .says .room)
 
-    pub item-few : {v : ℕ} → v ≡ getD table (recordWords * (end - 1) + 2) 0 → v ≤ end
-    item-few r = let all = r ∙ last-word turn 2 (omega arith) in omega (arith, turn .few)
+    pub item-few : {v : ℕ} → v ≡ getD table (recordWords * (end - 1) + recordsWord) 0 → v ≤ end
+    item-few r = let all = r ∙ last-word turn recordsWord (omega arith) in omega (arith, turn .few)
 
 -- In the end the series is rejoined over the filled items.
 each-filled : (l : List Node) → All (Not sequence) l → All (Not sequence) (filled l)
@@ -132,8 +132,8 @@ each-filled (r ∷ l) h = go (isEmpty r) (each-filled l (h .1))
     go true g = g
     go false g = (h .0, g)
 
-abbrev filledRow : List Node → Option Node
-filledRow l = when (any isEmpty l) (join sequence (filled l))
+abbrev filledSeries : List Node → Option Node
+filledSeries l = when (any isEmpty l) (join sequence (filled l))
 
 module _ {table₀ : List ℕ} {n₀ top : ℕ} {before : List ℕ} {x y : Node} {l m : List Token}
     (fit : Fitting t1 table₀ n₀ top before x y l m) where

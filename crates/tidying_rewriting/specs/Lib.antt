@@ -2,7 +2,7 @@ pub mod Rewriting
 pub mod Quantifiers
 pub mod Own
 pub mod Frames
-pub mod Rows
+pub mod Series
 pub mod Walks
 pub mod Filling
 pub mod Dropping

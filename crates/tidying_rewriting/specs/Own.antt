@@ -6,7 +6,7 @@ use native.Mathlib.Omega.{arith}
 use lib.ListN.{length, getD, length-append}
 use Rattle.meaning.specs.Node.{Node, Node.empty}
 use Rattle.meaning.specs.Results.{concatMap}
-use Rattle.table.specs.Table.{recordWords, recordCount}
+use Rattle.table.specs.Table.{recordWords, recordCount, emptyKind, recordsWord, leastWord}
 use Rattle.table.specs.Laws.{inner, lastOf}
 use Rattle.tidying_shapes.specs.Skeleton.{Token, token, skeletonIn, skeleton, inner-skeleton}
 use Rattle.tidying_shapes.specs.Tokens.{Says}
@@ -29,10 +29,10 @@ module _ {table : List ℕ} {n top : ℕ} {before : List ℕ} {x : Node} {l m : 
   inside-here = omega (arith, inside-count, skeleton-count x (p .ends .proper), p .here)
 
   -- The word that says how many records it has, and that they are there.
-  pub block : {w : ℕ} → w ≡ getD table (recordWords * (top - 1) + 2) 0
+  pub block : {w : ℕ} → w ≡ getD table (recordWords * (top - 1) + recordsWord) 0
       → (w ≡ recordCount x) × (1 ≤ w) × (w ≤ top) × (top ≤ n) × (recordWords * n ≤ length table)
   block {w} e =
-      let all : w ≡ recordCount x = e ∙ own-word p 2 (omega arith) in
+      let all : w ≡ recordCount x = e ∙ own-word p recordsWord (omega arith) in
       omega (arith, within p, inside-count, inside-here)
 
   -- The parts inside are said, and then its own token.
@@ -49,26 +49,27 @@ module _ {table : List ℕ} {n top : ℕ} {before : List ℕ} {x : Node} {l m : 
       k .says (n - gone) l (token x) m low (r .says l inside (token x ∷ m) low few own-said)
 
   -- Without its own record.
-  pub opened : {table₁ : List ℕ} → Removed table table₁ n (top - 1) 1 → Says table₁ (n - 1) (l ++ (concatMap skeleton (inner x) ++ m))
+  pub opened : {table₁ : List ℕ} → Removed table table₁ n (top - 1) 1
+      → Says table₁ (n - 1) (l ++ (concatMap skeleton (inner x) ++ m))
   opened r =
       let low : length (l ++ inside) ≡ top - 1 = omega (arith, inside-here, length-append l inside) in
       rw append-assoc at (r .says (l ++ inside) (token x ∷ []) m low refl (rw append-assoc own-said))
 
 -- A quantifier has become empty, or its own record has gone, by its minimum.
-pub never : {table table₁ : List ℕ} {n top n′ w : ℕ} → w ≡ getD table (recordWords * (top - 1) + 8) 0 → w ≡ 0
-    → Shrinks table table₁ n top 1 n′ → Rewrites unquantified table table₁ n top n′
+pub never : {table table₁ : List ℕ} {n top n′ w : ℕ} → w ≡ getD table (recordWords * (top - 1) + leastWord) 0 → w ≡ 0
+    → Shrinks table table₁ n top emptyKind n′ → Rewrites unquantified table table₁ n top n′
 unfolding skeletonIn inner
 never e z s = record {
   by = λ before x y l m f.
-      let least : getD (lastOf x) 0 0 ≡ 0 = sym (e ∙ own-word (f .placed) 8 (omega arith)) ∙ z in
+      let least : getD (lastOf x) 0 0 ≡ 0 = sym (e ∙ own-word (f .placed) leastWord (omega arith)) ∙ z in
       rw (ok-some (λ y. getD (lastOf x) 0 0 ≡ 0 → y ≡ empty) (f .fits) (left-empty x) least) (s .by before x l m (f .placed));
 }
 
-pub once : {table table₁ : List ℕ} {n top w : ℕ} → w ≡ getD table (recordWords * (top - 1) + 8) 0 → (w ≡ 0 → ⊥)
+pub once : {table table₁ : List ℕ} {n top w : ℕ} → w ≡ getD table (recordWords * (top - 1) + leastWord) 0 → (w ≡ 0 → ⊥)
     → Removed table table₁ n (top - 1) 1 → Rewrites unquantified table table₁ n top (n - 1)
 once e z r = record {
   by = λ before x y l m f.
-      let least : getD (lastOf x) 0 0 ≡ 0 → ⊥ = λ h. z (e ∙ own-word (f .placed) 8 (omega arith) ∙ h) in
+      let least : getD (lastOf x) 0 0 ≡ 0 → ⊥ = λ h. z (e ∙ own-word (f .placed) leastWord (omega arith) ∙ h) in
       rw (ok-some (Inside x) (f .fits) (left-part x) least) at (opened (f .placed) r);
 }
 

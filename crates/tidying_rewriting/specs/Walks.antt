@@ -17,7 +17,7 @@ use Rattle.tidying_shapes.specs.Laws.{says-length}
 use Rattle.tidying_shapes.specs.Told.{skeleton-count}
 use Rattle.tidying_rewriting.specs.Rewriting.{Placed, own-word}
 use Rattle.tidying_rewriting.specs.Own.{own-said, inside-here}
-use Rattle.tidying_rewriting.specs.Rows.{skeletons-append}
+use Rattle.tidying_rewriting.specs.Series.{skeletons-append}
 
 -- The walk has come to record number `end`, with `left` parts to go, behind which stand some tokens.
 pub record Walked (table : List ℕ) (n end left : ℕ) (before : List ℕ) (rest : List Node) (l ts : List Token) : Type 0 where
@@ -27,10 +27,10 @@ pub record Walked (table : List ℕ) (n end left : ℕ) (before : List ℕ) (res
 
 -- It begins below the series's own record.
 pub walk-start : {table : List ℕ} {n top w : ℕ} {before : List ℕ} {x : Node} {l m : List Token}
-    → Placed table n top before x l m → w ≡ getD table (recordWords * (top - 1) + 3) 0
+    → Placed table n top before x l m → w ≡ getD table (recordWords * (top - 1) + itemsWord) 0
     → Walked table n (top - 1) w before (inner x) l (token x ∷ m)
 walk-start {table} {n} {top} {w} {before} {x} p e =
-    let all : length (inner x) ≡ w = sym (e ∙ own-word p 3 (omega arith)) in
+    let all : length (inner x) ≡ w = sym (e ∙ own-word p itemsWord (omega arith)) in
     record {
       series = subst (λ (i : ℕ). Series table (top - 1) i before (inner x)) all (inside (p .ends));
       low = omega (arith, inside-here p);

@@ -22,7 +22,7 @@ ghost use Rattle.tidying_laws.specs.Laws.{t1, t7};
 ghost use Rattle.tidying_rewriting.specs.Rewriting.{SomePlaced, SomeFitting, Rewrites, Shrinks};
 ghost use Rattle.tidying_rewriting.specs.Quantifiers.{unquantified, unnested};
 ghost use Rattle.tidying_rewriting.specs.Frames.{Cut};
-ghost use Rattle.tidying_rewriting.specs.Rows.{Rejoins};
+ghost use Rattle.tidying_rewriting.specs.Series.{Rejoins};
 ghost use Rattle.tidying_rewriting.specs.Dropping.{dropping};
 
 // A part becomes one record of a kind: its other records go.

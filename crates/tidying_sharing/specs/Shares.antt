@@ -18,7 +18,7 @@ use Rattle.tidying_fitting.specs.Marks.{beginsWith, alike, follows, marks, begi
 use Rattle.tidying_fitting.specs.declared.Mark.the-variants.{Alike}
 use Rattle.tidying_shapes.specs.Skeleton.{Token, token, rowToken, skeletonIn, skeleton, glue-row, glue-in, glue-width}
 use Rattle.tidying_rewriting.specs.Rewriting.{ok-some}
-use Rattle.tidying_rewriting.specs.Rows.{RowOf, row-of, rejoined, rejoined-join, skeletons-append}
+use Rattle.tidying_rewriting.specs.Series.{SeriesOf, series-of, rejoined, rejoined-join, skeletons-append}
 use Rattle.tidying_sharing.specs.Leads.{left, opening, RunOf, run-of, glued, sharing, SharedAt, share-at, is-some}
 use Rattle.tidying_sharing.specs.Trims.{trimmed, lead-tokens}
 use Rattle.tidying_sharing.specs.Wraps.{setToken}
@@ -39,8 +39,8 @@ pub record Shares (x y : Node) : Type 0 where
   pub says : token x ≡ rowToken alternation (length (inner x))
   pub all : inner x ≡ parts alternation x
 
-abbrev sharedRow : List Node → Option Node
-sharedRow l = Option·map (join alternation) (share l)
+abbrev sharedSeries : List Node → Option Node
+sharedSeries l = Option·map (join alternation) (share l)
 
 pub shares-of : (x y : Node) → t8 x ≡ some y → Shares x y
 unfolding share leftmost
@@ -112,13 +112,13 @@ module _ {x y : Node} (k : Shares x y) where
   split-run = k .split ∙ ap (λ m. k .front ++ m) (the-run .split)
 
 -- What is left of several alternatives is one alternation, which follows the set in a sequence.
-glues-row : (p : Node) (l : List Node) → (trimmed (glues p l) ≡ concatMap trimmed (p ∷ l))
+glues-series : (p : Node) (l : List Node) → (trimmed (glues p l) ≡ concatMap trimmed (p ∷ l))
     × (length (parts alternation (glues p l)) ≡ widths (p ∷ l))
 unfolding glues
-glues-row p [] = (sym (append-nil (trimmed p)), omega arith)
-glues-row p (q ∷ l) =
+glues-series p [] = (sym (append-nil (trimmed p)), omega arith)
+glues-series p (q ∷ l) =
     let g = glue-row alternation p (glues q l) in
-    let h = glues-row q l in
+    let h = glues-series q l in
     (g .0 ∙ ap (λ ts. trimmed p ++ ts) (h .0), g .1 ∙ ap (λ n. length (parts alternation p) + n) (h .1))
 
 wrapped : (s : List ℕ) (l : List Node) → 2 ≤ length l → skeleton (seq (bset s) (glued l))

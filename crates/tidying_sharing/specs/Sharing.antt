@@ -1,4 +1,4 @@
--- T8 in a table: the run found, its alternatives trimmed, the alternation's own record set, the set and two rows put round.
+-- T8 in a table: the run found, its alternatives trimmed, the alternation's own record set, and the shared set put before.
 use mathlib.Core.Path.{_≡_, refl, sym, ap, subst, _∙_}
 use mathlib.Core.List.{List, [], _∷_, _++_, append-assoc}
 use Prim.Native.Nat.{ℕ, suc, _+_, _-_, _*_, _≤_, _<_}
@@ -131,7 +131,7 @@ module _ {table : List ℕ} {n top : ℕ} {before : List ℕ} {x y : Node} {l m 
       all = the-run k .all;
     }
 
-    pub running-there : getD table (recordWords * (top - 1) + 2) 0 < wordLimit → SomeRunning table n from stop
+    pub running-there : getD table (recordWords * (top - 1) + recordsWord) 0 < wordLimit → SomeRunning table n from stop
     running-there h = record {
       before = before;
       set = k .set;
@@ -142,7 +142,7 @@ module _ {table : List ℕ} {n top : ℕ} {before : List ℕ} {x y : Node} {l m 
       running = the-running;
       short = omega (
         arith,
-        own-word (fit .placed) 2 (omega arith),
+        own-word (fit .placed) recordsWord (omega arith),
         stops,
         whole-count,
         inner-count x,
@@ -184,11 +184,11 @@ module _ {table : List ℕ} {n top : ℕ} {before : List ℕ} {x y : Node} {l m 
         length-append behind (token x ∷ m),
       )
 
-      module _ {items : ℕ} (i : items ≡ getD table (recordWords * (top - 1) + 3) 0) where
+      module _ {items : ℕ} (i : items ≡ getD table (recordWords * (top - 1) + itemsWord) 0) where
         all-items : items ≡ length (k .front) + (length (leads k) + length (after k))
         all-items = omega (
           arith,
-          i ∙ own-word (fit .placed) 3 (omega arith),
+          i ∙ own-word (fit .placed) itemsWord (omega arith),
           ap length (split-run k),
           length-append (k .front) (leads k ++ after k),
           length-append (leads k) (after k),
@@ -238,7 +238,7 @@ module _ {table : List ℕ} {n top : ℕ} {before : List ℕ} {x y : Node} {l m 
           pub wrap-room : (from ≤ stop + n₁ - n) × (stop + n₁ - n ≤ n₂) × (recordWords * (n₂ + 3) ≤ length table)
           wrap-room =
               let last : List Token = ending (items - gone + 1) m in
-              let rows : List Token = rowToken alternation (widths (rests k)) ∷ rowToken sequence 2 ∷ (behind ++ last) in
+              let owns : List Token = rowToken alternation (widths (rests k)) ∷ rowToken sequence 2 ∷ (behind ++ last) in
               omega (
                 arith,
                 fit .room,
@@ -254,8 +254,8 @@ module _ {table : List ℕ} {n top : ℕ} {before : List ℕ} {x y : Node} {l m 
                 length-append behind last,
                 ap length result,
                 length-append (skeleton y) m,
-                length-append front (setToken (k .set) ∷ (rest ++ rows)),
-                length-append rest rows,
+                length-append front (setToken (k .set) ∷ (rest ++ owns)),
+                length-append rest owns,
               )
 
           wrapped-said : {table₃ set : List ℕ} {n₃ : ℕ} → set ≡ k .set

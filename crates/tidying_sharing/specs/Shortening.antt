@@ -16,7 +16,7 @@ use Rattle.tidying_fitting.specs.Words.{startOf}
 use Rattle.tidying_shapes.specs.Skeleton.{Token, skeleton}
 use Rattle.tidying_shapes.specs.Tokens.{Says}
 use Rattle.tidying_shapes.specs.Told.{skeleton-count}
-use Rattle.tidying_rewriting.specs.Rows.{skeletons-append}
+use Rattle.tidying_rewriting.specs.Series.{skeletons-append}
 use Rattle.tidying_rewriting.specs.Walks.{Walked, Turned, turned}
 use Rattle.tidying_sharing.specs.Leads.{Lead, left}
 use Rattle.tidying_sharing.specs.Trims.{trimmed, fewer-parts, trim-width}

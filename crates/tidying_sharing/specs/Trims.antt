@@ -8,7 +8,7 @@ use lib.ListN.{length, getD, length-append}
 use Rattle.meaning.specs.Node.{Node, Node.empty, Node.bset, Node.assert, Node.group, Node.seq, Node.alt, Node.many}
 use Rattle.meaning.specs.Flat.{Kind, Kind.sequence, Kind.alternation, Not, parts, pair}
 use Rattle.meaning.specs.Results.{concatMap}
-use Rattle.table.specs.Table.{recordWords}
+use Rattle.table.specs.Table.{recordWords, emptyKind, alternationKind, kindWord, itemsWord}
 use Rattle.table.specs.Laws.{inner, kindOf}
 use Rattle.tidying_fitting.specs.Parts.{length-parts}
 use Rattle.tidying_shapes.specs.Skeleton.{Token, token, rowToken, skeletonIn, skeleton, inner-skeleton, row-parts, alone}
@@ -60,15 +60,15 @@ data Left : Node → Type 0 where
       → skeletonIn (some sequence) r ≡ trimmed r ++ (rowToken alternation (length (parts alternation r)) ∷ []) → Left r
   other : {r : Node} → length (parts sequence r) ≡ 1 → length (parts alternation r) ≡ 1
       → skeletonIn (some sequence) r ≡ trimmed r → (front : List Token) (last : Token) → trimmed r ≡ front ++ (last ∷ [])
-      → (last .kind ≡ 6 → ⊥) → Left r
+      → (last .kind ≡ alternationKind → ⊥) → Left r
 
 -- A series in a series of the other kind: its parts and its own token.
 row-own : (k : Kind) (r q : Node) → skeleton (pair k r q)
     ≡ skeletonIn (some k) (pair k r q) ++ (rowToken k (suc (length (parts k q))) ∷ [])
-row-own k r q =
+series-own k r q =
     pair-own k r q ∙ ap (λ ts. ts ++ (rowToken k (suc (length (parts k q))) ∷ [])) (sym (pair-row k r q))
 
-module _ (r : Node) (q : Not sequence r) (a : Not alternation r) (k : kindOf r ≡ 6 → ⊥) where
+module _ (r : Node) (q : Not sequence r) (a : Not alternation r) (k : kindOf r ≡ alternationKind → ⊥) where
   plain : Left r
   plain = other (alone sequence r q .1) (alone alternation r a .1) (alone sequence r q .0 ∙ sym (alone alternation r a .0))
       (concatMap skeleton (inner r)) (token r) (alone alternation r a .0 ∙ inner-skeleton r) k
@@ -80,8 +80,8 @@ left-of (bset s) = plain (bset s) tt tt (λ e. omega arith)
 left-of (assert b) = plain (assert b) tt tt (λ e. omega arith)
 left-of (group n r) = plain (group n r) tt tt (λ e. omega arith)
 left-of (seq r q) = several {r = seq r q} (omega (arith, length-parts sequence q)) refl
-    (alone alternation (seq r q) tt .0 ∙ row-own sequence r q)
-left-of (alt r q) = choice refl (alone sequence (alt r q) tt .0 ∙ row-own alternation r q)
+    (alone alternation (seq r q) tt .0 ∙ series-own sequence r q)
+left-of (alt r q) = choice refl (alone sequence (alt r q) tt .0 ∙ series-own alternation r q)
 left-of (many n e lazy r) = plain (many n e lazy r) tt tt (λ e. omega arith)
 
 -- The words of the own record and of the one below it are read from the tokens.
@@ -105,10 +105,10 @@ module _ {table : List ℕ} {n records : ℕ} {s : List ℕ} {r : Node} {m : Lis
   long : suc (suc (length items)) ≡ records
   long = omega (arith, t .counted, ap length (lead-tokens s r), length-append items (own ∷ []))
 
-  own-items : getD table (recordWords * (records - 1) + 3) 0 ≡ suc (length (parts sequence r))
+  own-items : getD table (recordWords * (records - 1) + itemsWord) 0 ≡ suc (length (parts sequence r))
   own-items =
       let at : length (set ∷ items) ≡ records - 1 = omega (arith, long) in
-      subst (λ (i : ℕ). getD table (recordWords * i + 3) 0 ≡ suc (length (parts sequence r))) at
+      subst (λ (i : ℕ). getD table (recordWords * i + itemsWord) 0 ≡ suc (length (parts sequence r))) at
       (ap (λ k. k .items) (says-at (set ∷ items) own m said))
 
   below : (front : List Token) (last : Token) → items ≡ front ++ (last ∷ []) → tokenAt table (records - 1 - 1) ≡ last
@@ -118,10 +118,10 @@ module _ {table : List ℕ} {n records : ℕ} {s : List ℕ} {r : Node} {m : Lis
       subst (λ (i : ℕ). tokenAt table i ≡ last) at (says-at (set ∷ front) last (own ∷ m) told)
 
   kind-below : (front : List Token) (last : Token) → items ≡ front ++ (last ∷ [])
-      → getD table (recordWords * (records - 1 - 1) + 0) 0 ≡ last .kind
+      → getD table (recordWords * (records - 1 - 1) + kindWord) 0 ≡ last .kind
   kind-below front last e = ap (λ i. getD table i 0) (omega arith) ∙ ap (λ k. k .kind) (below front last e)
 
-  module _ {w : ℕ} (e : w ≡ getD table (recordWords * (records - 1) + 3) 0) where
+  module _ {w : ℕ} (e : w ≡ getD table (recordWords * (records - 1) + itemsWord) 0) where
     all : w ≡ suc (length (parts sequence r))
     all = e ∙ own-items
 
@@ -138,8 +138,9 @@ module _ {table : List ℕ} {n records : ℕ} {s : List ℕ} {r : Node} {m : Lis
     several-left h c g (other one _ _ _ _ _ _) = absurd (omega (arith, all))
 
     -- Two items: the sequence goes too, and so does an alternation that is the second, whose alternatives join.
-    choice-left : {table₁ table₂ : List ℕ} {k p : ℕ} → w ≤ 2 → k ≡ getD table (recordWords * (records - 1 - 1) + 0) 0
-        → k ≡ 6 → p ≡ getD table (recordWords * (records - 1 - 1) + 3) 0 → Removed table table₁ n (records - 2) 2
+    choice-left : {table₁ table₂ : List ℕ} {k p : ℕ} → w ≤ 2 → k ≡ getD table (recordWords * (records - 1 - 1) + kindWord) 0
+        → k ≡ alternationKind → p ≡ getD table (recordWords * (records - 1 - 1) + itemsWord) 0
+        → Removed table table₁ n (records - 2) 2
         → Removed table₁ table₂ (n - 2) 0 1 → Left r
         → Says table₂ (n - 2 - 1) (trimmed r ++ m) × (p ≡ length (parts alternation r))
     choice-left h f z i c g (several two _ _) = absurd (omega (arith, all))
@@ -154,8 +155,8 @@ module _ {table : List ℕ} {n records : ℕ} {s : List ℕ} {r : Node} {m : Lis
     choice-left h f z i c g (other _ _ same front last split differs) =
         absurd (differs (sym (kind-below front last (same ∙ split)) ∙ sym f ∙ z))
 
-    other-left : {table₁ table₂ : List ℕ} {k : ℕ} → w ≤ 2 → k ≡ getD table (recordWords * (records - 1 - 1) + 0) 0
-        → (k ≡ 6 → ⊥) → Removed table table₁ n (records - 1) 1 → Removed table₁ table₂ (n - 1) 0 1 → Left r
+    other-left : {table₁ table₂ : List ℕ} {k : ℕ} → w ≤ 2 → k ≡ getD table (recordWords * (records - 1 - 1) + kindWord) 0
+        → (k ≡ alternationKind → ⊥) → Removed table table₁ n (records - 1) 1 → Removed table₁ table₂ (n - 1) 0 1 → Left r
         → Says table₂ (n - 1 - 1) (trimmed r ++ m) × (1 ≡ length (parts alternation r))
     other-left h f z c g (several two _ _) = absurd (omega (arith, all))
     other-left h f z c g (choice _ whole) = absurd (z (f ∙ kind-below (trimmed r) inner-own whole))
@@ -166,7 +167,7 @@ module _ {table : List ℕ} {n records : ℕ} {s : List ℕ} {r : Node} {m : Lis
 
 -- So each way to trim.
 module _ {table table₁ : List ℕ} {n records : ℕ} where
-  pub trims-single : records ≡ 1 → Marked table table₁ 0 (leafToken 1) → Trims table table₁ n records n 1
+  pub trims-single : records ≡ 1 → Marked table table₁ 0 (leafToken emptyKind) → Trims table table₁ n records n 1
   unfolding skeletonIn inner parts
   trims-single e k = record { by = λ s a r m t. go (t .lead) t }
     where
@@ -188,18 +189,18 @@ module _ {table table₁ : List ℕ} {n records : ℕ} where
       go {s} {m = m} (leading r) t = f s r m t
 
 module _ {table table₁ table₂ : List ℕ} {n records w : ℕ} (z : records ≡ 1 → ⊥)
-    (e : w ≡ getD table (recordWords * (records - 1) + 3) 0) where
+    (e : w ≡ getD table (recordWords * (records - 1) + itemsWord) 0) where
   pub trims-several : 2 < w → Counted table table₁ (records - 1) (w - 1) → Removed table₁ table₂ n 0 1
       → Trims table table₂ n records (n - 1) 1
   trims-several h c g = longer z (λ s r m t. several-left t e h c g (left-of r))
 
-  pub trims-choice : {k p : ℕ} → w ≤ 2 → k ≡ getD table (recordWords * (records - 1 - 1) + 0) 0 → k ≡ 6
-      → p ≡ getD table (recordWords * (records - 1 - 1) + 3) 0 → Removed table table₁ n (records - 2) 2
+  pub trims-choice : {k p : ℕ} → w ≤ 2 → k ≡ getD table (recordWords * (records - 1 - 1) + kindWord) 0 → k ≡ alternationKind
+      → p ≡ getD table (recordWords * (records - 1 - 1) + itemsWord) 0 → Removed table table₁ n (records - 2) 2
       → Removed table₁ table₂ (n - 2) 0 1 → Trims table table₂ n records (n - 3) p
   trims-choice h f k i c g = longer z (λ s r m t.
       let left = choice-left t e h f k i c g (left-of r) in (says-same refl (omega arith) (left .0), left .1))
 
-  pub trims-other : {k : ℕ} → w ≤ 2 → k ≡ getD table (recordWords * (records - 1 - 1) + 0) 0 → (k ≡ 6 → ⊥)
+  pub trims-other : {k : ℕ} → w ≤ 2 → k ≡ getD table (recordWords * (records - 1 - 1) + kindWord) 0 → (k ≡ alternationKind → ⊥)
       → Removed table table₁ n (records - 1) 1 → Removed table₁ table₂ (n - 1) 0 1 → Trims table table₂ n records (n - 2) 1
   trims-other h f k c g = longer z (λ s r m t.
       let left = other-left t e h f k c g (left-of r) in (says-same refl (omega arith) (left .0), left .1))
@@ -212,8 +213,8 @@ pub fewer-parts : (l : List Node) → length l ≤ length (concatMap skeleton l)
 fewer-parts [] = omega arith
 fewer-parts (p ∷ l) = omega (arith, fewer-parts l, some-tokens p, length-append (skeleton p) (concatMap skeleton l))
 
-row-some : (k : Kind) (r : Node) → length (parts k r) ≤ length (skeletonIn (some k) r)
-row-some k r = rw (row-parts k r) (fewer-parts (parts k r))
+series-some : (k : Kind) (r : Node) → length (parts k r) ≤ length (skeletonIn (some k) r)
+series-some k r = rw (row-parts k r) (fewer-parts (parts k r))
 
 -- So the records are there,
 pub some-trimming : {table : List ℕ} {n records : ℕ} {s : List ℕ} {a r : Node} {m : List Token}
@@ -233,7 +234,7 @@ some-trimming {table} {n} {records} {s} {a} {r} {m} t = record {
   where
     go : {s : List ℕ} {a r : Node} {m : List Token} → records ≡ 2 → Lead s a r → Trimming table n records s a r m → ⊥
     go two single t = omega (arith, t .counted)
-    go two (leading r) t = omega (arith, long t, length-parts sequence r, row-some sequence r)
+    go two (leading r) t = omega (arith, long t, length-parts sequence r, series-some sequence r)
 
 -- and what is left has an alternative for each of them at most.
 pub trim-width : {s : List ℕ} {a r : Node} → Lead s a r → length (parts alternation r) ≤ length (skeleton a)
@@ -248,5 +249,5 @@ trim-width {s} (leading r) = go (left-of r)
     go (several _ one _) = omega (arith, tokens)
     go (choice _ whole) =
         let own : List Token = rowToken alternation (length (parts alternation r)) ∷ [] in
-        omega (arith, tokens, row-some alternation r, ap length whole, length-append (trimmed r) own)
+        omega (arith, tokens, series-some alternation r, ap length whole, length-append (trimmed r) own)
     go (other _ one _ _ _ _ _) = omega (arith, tokens)

@@ -1,17 +1,18 @@
--- T8: a set and two rows are put round some records.
+-- T8: a set, an alternation and a sequence are put round some records.
 use mathlib.Core.Path.{_≡_, refl}
 use mathlib.Core.List.{List, _∷_, _++_, append-assoc}
 use Prim.Native.Nat.{ℕ, _+_}
 use native.Mathlib.Omega.{arith}
 use lib.ListN.{length, length-append}
 use Rattle.meaning.specs.Flat.{Kind.sequence, Kind.alternation}
+use Rattle.table.specs.Table.{setKind}
 use Rattle.tidying_shapes.specs.Skeleton.{Token, rowToken}
 use Rattle.tidying_shapes.specs.Tokens.{Says}
 use Rattle.tidying_shapes.specs.Laws.{says-same}
 use Rattle.tidying_shapes.specs.Edits.{Inserted, Marked}
 
 abbrev pub setToken : List ℕ → Token
-setToken set = record { kind = 2; operand = 0; items = 0; last = set }
+setToken set = record { kind = setKind; operand = 0; items = 0; last = set }
 
 pub record Wraps (table table′ : List ℕ) (n start end parts : ℕ) (set : List ℕ) (n′ : ℕ) : Type 0 where
   pub by : (l ts m : List Token) → length l ≡ start → length l + length ts ≡ end → Says table n (l ++ (ts ++ m))
@@ -29,10 +30,10 @@ pub wraps : {table a a′ b b′ c c′ : List ℕ} {n start end parts : ℕ} {s
 wraps {a′ = a′} {b′ = b′} {c′ = c′} {n} {start} {end} {parts} {set} i k i′ k′ i″ k″ = record {
   by = λ l ts m low high s.
       let at : length (l ++ ts) ≡ end = omega (arith, length-append l ts) in
-      let rows : List Token = rowToken alternation parts ∷ rowToken sequence 2 ∷ m in
+      let owns : List Token = rowToken alternation parts ∷ rowToken sequence 2 ∷ m in
       let one : Says a′ (n + 1) ((l ++ ts) ++ (rowToken sequence 2 ∷ m)) = put i k (l ++ ts) m at (rw append-assoc s) in
-      let two : Says b′ (n + 1 + 1) ((l ++ ts) ++ rows) = put i′ k′ (l ++ ts) (rowToken sequence 2 ∷ m) at one in
+      let two : Says b′ (n + 1 + 1) ((l ++ ts) ++ owns) = put i′ k′ (l ++ ts) (rowToken sequence 2 ∷ m) at one in
       let twice : n + 1 + 1 ≡ n + 2 = omega arith in
       let thrice : n + 2 + 1 ≡ n + 3 = omega arith in
-      says-same refl thrice (put i″ k″ l (ts ++ rows) low (rw append-assoc at (says-same refl twice two)));
+      says-same refl thrice (put i″ k″ l (ts ++ owns) low (rw append-assoc at (says-same refl twice two)));
 }

@@ -3,8 +3,9 @@ use mathlib.Core.Path.{_≡_, _∙_}
 use Prim.Native.Nat.{_+_, _≤_, _-_}
 use native.Mathlib.Omega.{arith}
 use borrow.Author.Needs.{needs}
+use Rattle.tidying_laws.specs.List.{laws}
 use Rattle.tidying_laws.specs.ByNumber.{lawCount}
-use Rattle.tidying.specs.Search.{Before, Lower, law-count, some-part, before-start, before-more, found-none}
+use Rattle.tidying.specs.Search.{Before, Lower, some-part, before-start, before-more, found-none}
 use Rattle.tidying.specs.Search.{lower-start, lower-more, found-here}
 use Rattle.tidying.specs.declared.Found.the-variants.{Nothing}
 use Rattle.tidying.proofs.search.Statement.{statement}
@@ -33,21 +34,24 @@ fits-requires c κs = let parts = c .before .before .before in
     some-part (parts .search .top) (omega arith) (parts .before .before .pre)
 
 loop-less : tie.Need-loop-less Inv-loop μ-loop Inv-search μ-search
-loop-less c = omega (arith, law-count)
+unfolding lawCount laws
+loop-less c = omega arith
 
 loop-again : tie.Need-loop-again Inv-loop μ-loop Inv-search μ-search
-loop-again c = let laws = c .before .before .before .loop in (
+unfolding lawCount laws
+loop-again c = let tried = c .before .before .before .loop in (
   omega arith,
-  omega (arith, law-count),
-  lower-more (omega arith) (omega (arith, law-count)) (c .before .fits2 .ensures) (laws .inv .2) (c .if1 .left),
+  omega arith,
+  lower-more (omega arith) (omega arith) (c .before .fits2 .ensures) (tried .inv .2) (c .if1 .left),
   search needs,
 )
 
 search-again : tie.Need-search-again Inv-loop μ-loop Inv-search μ-search
-search-again c = let laws = c .before .before .loop in let parts = c .before .before .before .before .search in (
+unfolding lawCount laws
+search-again c = let tried = c .before .before .loop in let parts = c .before .before .before .before .search in (
   omega arith,
   omega arith,
-  before-more (omega arith) (omega (arith, law-count)) (laws .inv .2) (parts .inv .2),
+  before-more (omega arith) (omega arith) (tried .inv .2) (parts .inv .2),
   cc,
 )
 
@@ -55,18 +59,20 @@ returns : tie.Need-returns Inv-loop μ-loop Inv-search μ-search
 returns c = let parts = c .before .search in rw (parts .inv .3) (found-none (omega arith) (parts .inv .2))
 
 returns-2 : tie.Need-returns-2 Inv-loop μ-loop Inv-search μ-search
+unfolding lawCount laws
 returns-2 c =
-    let laws = c .before .before .before .loop in
+    let tried = c .before .before .before .loop in
     let parts = c .before .before .before .before .before .search in
-    found-here (omega arith) (omega (arith, law-count)) (c .before .fits2 .ensures) (laws .inv .2) (c .if1 .taken)
+    found-here (omega arith) (omega arith) (c .before .fits2 .ensures) (tried .inv .2) (c .if1 .taken)
     (parts .inv .2)
 
 returns-3 : tie.Need-returns-3 Inv-loop μ-loop Inv-search μ-search
+unfolding lawCount laws
 returns-3 c =
-    let laws = c .before .before .loop in
+    let tried = c .before .before .loop in
     let parts = c .before .before .before .before .search in
-    rw (laws .inv .3 ∙ parts .inv .3)
-    (found-none (omega arith) (before-more (omega arith) (omega (arith, law-count)) (laws .inv .2) (parts .inv .2)))
+    rw (tried .inv .3 ∙ parts .inv .3)
+    (found-none (omega arith) (before-more (omega arith) (omega arith) (tried .inv .2) (parts .inv .2)))
 
 pub search-spec : {M : Type 1} → statement M
 search-spec =

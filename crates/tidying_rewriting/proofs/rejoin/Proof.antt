@@ -1,6 +1,6 @@
 -- By how many parts are left.
 use borrow.Author.Needs.{needs}
-use Rattle.tidying_rewriting.specs.Rows.{rejoins-none, rejoins-one, rejoins-more}
+use Rattle.tidying_rewriting.specs.Series.{rejoins-none, rejoins-one, rejoins-more}
 use Rattle.tidying_rewriting.proofs.rejoin.Statement.{statement}
 use Rattle.tidying_rewriting.proofs.rejoin.Tie as tie
 

@@ -1,4 +1,4 @@
--- The run is found and its alternatives are trimmed; the alternation's own record is set; the set and two records are put round.
+-- The run is found and its alternatives are trimmed; the alternation's own record is set; the shared set is put before.
 use borrow.Author.Needs.{needs}
 use Prim.Native.Nat.{_+_, _-_, _*_}
 use native.Mathlib.Omega.{arith}

@@ -80,15 +80,15 @@ same-length-3 c = search needs
 returns-3 : tie.Need-returns-3
 returns-3 c =
     let removed = c .before .before in
-    let rows = removed .before .before .before .before in
-    let parts = rows .before .before in
+    let owns = removed .before .before .before .before in
+    let parts = owns .before .before in
     let inner = parts .before .before in
     let kind = inner .before in
     let test = kind .before .before in
     let items = test .before in
     let more = items .before .before in
     trims-choice (more .if1 .left) (items .word .ensures) (test .if2 .left) (kind .word2 .ensures) (inner .if3 .taken)
-    (parts .word3 .ensures) (rows .remove2 .ensures) (removed .remove3 .ensures)
+    (parts .word3 .ensures) (owns .remove2 .ensures) (removed .remove3 .ensures)
 
 sub-remove-3 : tie.Need-sub-remove-3
 sub-remove-3 c = search needs

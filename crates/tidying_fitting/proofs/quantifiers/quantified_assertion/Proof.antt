@@ -1,3 +1,4 @@
+use Rattle.table.specs.Table.{assertionKind}
 use Rattle.tidying_laws.specs.Laws.{t4}
 use Rattle.tidying_fitting.specs.Fitting.{fits}
 use Rattle.tidying_fitting.proofs.Told.{by-test}
@@ -11,7 +12,7 @@ over-requires : tie.Need-over-requires
 over-requires c κs = search needs
 
 returns : tie.Need-returns
-returns c = by-test (isOver 3) (fits t4) (λ r. sym (t4-over r)) ((c .over) .ensures)
+returns c = by-test (isOver assertionKind) (fits t4) (λ r. sym (t4-over r)) ((c .over) .ensures)
 
 pub quantified-assertion-spec : {M : Type 1} → statement M
 quantified-assertion-spec = tie.close (tie.spec over-requires returns)

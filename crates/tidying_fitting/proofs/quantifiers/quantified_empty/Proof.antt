@@ -1,3 +1,4 @@
+use Rattle.table.specs.Table.{emptyKind}
 use Rattle.tidying_laws.specs.Laws.{t3}
 use Rattle.tidying_fitting.specs.Fitting.{fits}
 use Rattle.tidying_fitting.proofs.Told.{by-test}
@@ -11,7 +12,7 @@ over-requires : tie.Need-over-requires
 over-requires c κs = search needs
 
 returns : tie.Need-returns
-returns c = by-test (isOver 1) (fits t3) (λ r. sym (t3-over r)) ((c .over) .ensures)
+returns c = by-test (isOver emptyKind) (fits t3) (λ r. sym (t3-over r)) ((c .over) .ensures)
 
 pub quantified-empty-spec : {M : Type 1} → statement M
 quantified-empty-spec = tie.close (tie.spec over-requires returns)

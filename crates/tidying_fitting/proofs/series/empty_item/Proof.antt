@@ -1,6 +1,7 @@
 -- T1 fits where a part of the series is the one that it looks for.
 use mathlib.Core.Path.{sym}
 use borrow.Author.Needs.{needs}
+use Rattle.table.specs.Table.{sequenceKind}
 use Rattle.tidying_laws.specs.Laws.{t1}
 use Rattle.tidying_fitting.specs.Fitting.{fits}
 use Rattle.tidying_fitting.specs.Marks.{hasMarked, t1-marked}
@@ -10,7 +11,7 @@ use Rattle.tidying_fitting.proofs.series.empty_item.Statement.{statemen
 use Rattle.tidying_fitting.proofs.series.empty_item.Tie as tie
 
 returns : tie.Need-returns
-returns c = by-test (hasMarked 5 Empty) (fits t1) (λ r. sym (t1-marked r)) ((c .has-marked) .ensures)
+returns c = by-test (hasMarked sequenceKind Empty) (fits t1) (λ r. sym (t1-marked r)) ((c .has-marked) .ensures)
 
 pub empty-item-spec : {M : Type 1} → statement M
 empty-item-spec =

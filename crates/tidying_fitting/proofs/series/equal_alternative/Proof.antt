@@ -1,6 +1,7 @@
 -- T6 fits where a part of the series is the one that it looks for.
 use mathlib.Core.Path.{sym}
 use borrow.Author.Needs.{needs}
+use Rattle.table.specs.Table.{alternationKind}
 use Rattle.tidying_laws.specs.Laws.{t6}
 use Rattle.tidying_fitting.specs.Fitting.{fits}
 use Rattle.tidying_fitting.specs.Marks.{hasMarked, t6-marked}
@@ -10,7 +11,7 @@ use Rattle.tidying_fitting.proofs.series.equal_alternative.Statement.{s
 use Rattle.tidying_fitting.proofs.series.equal_alternative.Tie as tie
 
 returns : tie.Need-returns
-returns c = by-test (hasMarked 6 Equal) (fits t6) (λ r. sym (t6-marked r)) ((c .has-marked) .ensures)
+returns c = by-test (hasMarked alternationKind Equal) (fits t6) (λ r. sym (t6-marked r)) ((c .has-marked) .ensures)
 
 pub equal-alternative-spec : {M : Type 1} → statement M
 equal-alternative-spec =

@@ -12,7 +12,7 @@ use Rattle.table.specs.Stands.{Ends}
 use Rattle.tidying_fitting.specs.Places.{Walk}
 use Rattle.tidying_fitting.specs.Marks.{marks}
 use Rattle.tidying_fitting.proofs.Told.{asked}
-use Rattle.tidying_fitting.proofs.Walked.{last-asked, row-asked, walk-first, walk-more, walk-over}
+use Rattle.tidying_fitting.proofs.Walked.{last-asked, series-asked, walk-first, walk-more, walk-over}
 use Rattle.tidying_fitting.proofs.series.leftmost.Statement.{statement}
 use Rattle.tidying_fitting.proofs.series.leftmost.Tie as tie
 
@@ -30,12 +30,14 @@ loop-holds : tie.Need-loop-holds Inv-loop μ-loop
 loop-holds c = λ before r p. walk-first (marks ((c .before .before) .args .mark)) p ((c .own) .ensures)
 
 marked-requires : tie.Need-marked-requires Inv-loop μ-loop
-marked-requires c κs = let s = (c .before .before .before .before) .pre in row-asked
+marked-requires c κs = let s = (c .before .before .before .before) .pre in series-asked
     ((c .before .loop) .inv (s .before) (s .part) (s .ends)) ((c .loop-test) .taken)
 
 start-requires : tie.Need-start-requires Inv-loop μ-loop
-start-requires c κs = let s = (c .before .before .before .before .before .before) .pre in last-asked
-    (row-asked ((c .before .before .before .loop) .inv (s .before) (s .part) (s .ends)) ((c .before .before .loop-test) .taken))
+start-requires c κs =
+    let s = (c .before .before .before .before .before .before) .pre in
+    let walk = (c .before .before .before .loop) .inv (s .before) (s .part) (s .ends) in
+    last-asked (series-asked walk ((c .before .before .loop-test) .taken))
 
 loop-again : tie.Need-loop-again Inv-loop μ-loop
 loop-again c =

@@ -5,7 +5,7 @@ use mathlib.Core.List.{List, [], _∷_, _++_}
 use Rattle.meaning.specs.Node.{Node}
 use Rattle.table.specs.Stands.{Series}
 use Rattle.tidying_fitting.specs.Places.{Walk}
-use Rattle.tidying_fitting.proofs.Walked.{equals, last-asked, row-some, row-asked}
+use Rattle.tidying_fitting.proofs.Walked.{equals, last-asked, series-some, series-asked}
 use Rattle.tidying_fitting.proofs.Walked.{repeat-first, repeat-more, repeat-found, repeat-over}
 use Rattle.tidying_fitting.proofs.series.repeats.Statement.{statement}
 use Rattle.tidying_fitting.proofs.series.repeats.Tie as tie
@@ -21,7 +21,7 @@ start-requires : tie.Need-start-requires Inv-loop μ-loop
 start-requires c κs = last-asked ((c .before) .pre)
 
 sub-left : tie.Need-sub-left Inv-loop μ-loop
-sub-left c = omega (arith, row-some ((c .before .before) .pre))
+sub-left c = omega (arith, series-some ((c .before .before) .pre))
 
 loop-holds : tie.Need-loop-holds Inv-loop μ-loop
 loop-holds c = λ before front q series. repeat-first front q series ((c .start) .ensures)

@@ -1,6 +1,7 @@
 -- T8 fits where a part of the series is the one that it looks for.
 use mathlib.Core.Path.{sym}
 use borrow.Author.Needs.{needs}
+use Rattle.table.specs.Table.{alternationKind}
 use Rattle.tidying_laws.specs.Laws.{t8}
 use Rattle.tidying_fitting.specs.Fitting.{fits}
 use Rattle.tidying_fitting.specs.Marks.{hasMarked, t8-marked}
@@ -10,7 +11,7 @@ use Rattle.tidying_fitting.proofs.series.shared_first.Statement.{statem
 use Rattle.tidying_fitting.proofs.series.shared_first.Tie as tie
 
 returns : tie.Need-returns
-returns c = by-test (hasMarked 6 Alike) (fits t8) (λ r. sym (t8-marked r)) ((c .has-marked) .ensures)
+returns c = by-test (hasMarked alternationKind Alike) (fits t8) (λ r. sym (t8-marked r)) ((c .has-marked) .ensures)
 
 pub shared-first-spec : {M : Type 1} → statement M
 shared-first-spec =

@@ -39,27 +39,27 @@ ok-each : (P : Node → Type 0) (o : Option Node) → ((y : Node) → o ≡ some
 ok-each P none h = tt
 ok-each P (some y) h = h y refl
 
-pub row-of : (k : Kind) (f : List Node → Option Node) (x : Node) → Ok (RowOf k f x) (onParts k f x)
+pub series-of : (k : Kind) (f : List Node → Option Node) (x : Node) → Ok (SeriesOf k f x) (onParts k f x)
 unfolding parts inner
-row-of k f empty = tt
-row-of k f (bset s) = tt
-row-of k f (assert a) = tt
-row-of k f (group n r) = tt
-row-of sequence f (alt r q) = tt
-row-of alternation f (seq r q) = tt
-row-of k f (many n e lazy r) = tt
-row-of sequence f (seq r q) =
-    let P : Node → Type 0 = RowOf sequence f (seq r q) in
+series-of k f empty = tt
+series-of k f (bset s) = tt
+series-of k f (assert a) = tt
+series-of k f (group n r) = tt
+series-of sequence f (alt r q) = tt
+series-of alternation f (seq r q) = tt
+series-of k f (many n e lazy r) = tt
+series-of sequence f (seq r q) =
+    let P : Node → Type 0 = SeriesOf sequence f (seq r q) in
     let l : List Node = r ∷ parts sequence q in
     ok-two P f l (λ h. ok-each P (f l) (λ y e. record { says = refl; fits = e; all = refl }))
-row-of alternation f (alt r q) =
-    let P : Node → Type 0 = RowOf alternation f (alt r q) in
+series-of alternation f (alt r q) =
+    let P : Node → Type 0 = SeriesOf alternation f (alt r q) in
     let l : List Node = r ∷ parts alternation q in
     ok-two P f l (λ h. ok-each P (f l) (λ y e. record { says = refl; fits = e; all = refl }))
 
 -- The tokens of a series over those of its parts, by how many parts there are.
 abbrev pub rejoined : Kind → ℕ → List Token → List Token
-rejoined k zero ts = leafToken 1 ∷ []
+rejoined k zero ts = leafToken emptyKind ∷ []
 rejoined k (suc zero) ts = ts
 rejoined k (suc (suc i)) ts = ts ++ (rowToken k (suc (suc i)) ∷ [])
 
@@ -81,7 +81,7 @@ module _ {table table′ : List ℕ} {n top kept : ℕ} where
       → Rejoins table table′ n top kept n′
   rejoining f = record { by = λ k old l ts m e z s. f k old l ts m (omega (arith, length-append l ts)) z (rw append-assoc s) }
 
-  pub rejoins-none : kept ≡ 0 → Marked table table′ (top - 1) (leafToken 1) → Rejoins table table′ n top kept n
+  pub rejoins-none : kept ≡ 0 → Marked table table′ (top - 1) (leafToken emptyKind) → Rejoins table table′ n top kept n
   rejoins-none z e = rejoining (λ k old l ts m low none s.
       rw z (rw (none z, append-nil) at (e .says n (l ++ ts) (rowToken k old) m low s)))
 
