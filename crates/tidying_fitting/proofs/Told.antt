@@ -9,6 +9,7 @@ use lib.Dec.{eqb}
 use borrow.Author.Tests.{eqb-true}
 use Rattle.meaning.specs.Tests.{and-true}
 use Rattle.meaning.specs.Node.{Node, Node.empty, Node.bset, Node.assert, Node.group, Node.seq, Node.alt, Node.many, hi, Proper}
+use Rattle.table.specs.Table.{quantifierKind}
 use Rattle.table.specs.Table.{kindWord, recordsWord, itemsWord, highestWord, setWord, leastWord, mostWord, lazyWord}
 use Rattle.table.specs.Table.{recordWords, wordOf}
 use Rattle.meaning.specs.Limits.{setWords}

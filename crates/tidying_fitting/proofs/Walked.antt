@@ -33,8 +33,8 @@ last-told items f t = record { by = λ before front q series. t .by _ q (last-en
 pub last-asked : {table : List ℕ} {top items : ℕ} → SomeLast table top items → SomePart table top
 last-asked s = record { before = _; part = s .last; ends = last-ends (s .front) (s .last) (s .series) }
 
-pub row-some : {table : List ℕ} {top items : ℕ} → SomeLast table top items → 0 < items
-row-some s = omega (arith, s .series .counted, length-append (s .front) (s .last ∷ []))
+pub series-some : {table : List ℕ} {top items : ℕ} → SomeLast table top items → 0 < items
+series-some s = omega (arith, s .series .counted, length-append (s .front) (s .last ∷ []))
 
 -- The part before the last one ends where that one starts.
 record Before (table : List ℕ) (n : ℕ) (before : List ℕ) (front : List Node) : Type 0 where
@@ -101,8 +101,8 @@ any-append p (r ∷ l) m = ap (λ b. p r || b) (any-append p l m) ∙ sym (or-as
 -- A walk over a series, in the loop's words: its first state, what a turn needs and gives, and its end.
 module _ {test : Test} {l : List Node} {table : List ℕ} {end left : ℕ} {before : List ℕ} {found : ℕ}
     (w : Walk test l table end left before found) where
-  pub row-asked : 0 < left → SomeLast table end left
-  row-asked h = let t = turn w h in record { before = before; front = t .front; last = t .part; series = t .series }
+  pub series-asked : 0 < left → SomeLast table end left
+  series-asked h = let t = turn w h in record { before = before; front = t .front; last = t .part; series = t .series }
 
   pub walk-more : 0 < left → {b : Bool} → TellsLast b table end left (λ front q. test (past front []) q) → {n : ℕ} → Tells n
       table end (startOf end)

@@ -7,6 +7,9 @@ use lib.ListN.{length, getD, length-append}
 use Rattle.meaning.specs.Node.{Node, Node.bset, Proper}
 use Rattle.meaning.specs.Flat.{Kind, Kind.alternation, Not}
 use Rattle.meaning.specs.Results.{concatMap}
+use Rattle.table.specs.Table.{setKind}
+use Rattle.table.specs.Table.{sequenceKind}
+use Rattle.table.specs.Table.{itemsWord, kindWord}
 use Rattle.table.specs.Table.{recordWords, recordCount, records}
 use Rattle.meaning.specs.All.{All, all-append, all-left, all-right}
 use Rattle.table.specs.Laws.{inner, kindOf, parts-flat}

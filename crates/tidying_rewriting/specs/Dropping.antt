@@ -107,8 +107,8 @@ drop-of mark x y e = go (leftmost (marks mark) [] (inner x)) refl
     rest : Option Split → Option Node
     rest = Option·map (λ s. join alternation (without s))
 
-    series : RowOf alternation (withoutMarked mark) x y
-    series = ok-some (RowOf alternation (withoutMarked mark) x) e (row-of alternation (withoutMarked mark) x)
+    series : SeriesOf alternation (withoutMarked mark) x y
+    series = ok-some (SeriesOf alternation (withoutMarked mark) x) e (series-of alternation (withoutMarked mark) x)
 
     go : (o : Option Split) → leftmost (marks mark) [] (inner x) ≡ o → Drop mark x y
     go none f = absurd (Option·none-ne-some y (sym (ap rest f) ∙ series .fits))

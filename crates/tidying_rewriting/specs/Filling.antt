@@ -11,6 +11,7 @@ use borrow.Author.Tests.{eq-eqb, ne-eqb}
 use Rattle.meaning.specs.Node.{Node, Node.empty}
 use Rattle.meaning.specs.Flat.{Kind.sequence, Not, join}
 use Rattle.meaning.specs.Results.{concatMap}
+use Rattle.table.specs.Table.{emptyKind, itemsWord, kindWord, recordsWord}
 use Rattle.table.specs.Table.{recordWords, recordsIn, recordCount}
 use Rattle.meaning.specs.All.{All}
 use Rattle.table.specs.Laws.{inner, kindOf, parts-flat}
@@ -137,8 +138,8 @@ filledSeries l = when (any isEmpty l) (join sequence (filled l))
 
 module _ {table₀ : List ℕ} {n₀ top : ℕ} {before : List ℕ} {x y : Node} {l m : List Token}
     (fit : Fitting t1 table₀ n₀ top before x y l m) where
-  series : RowOf sequence filledRow x y
-  series = ok-some (RowOf sequence filledRow x) (fit .fits) (row-of sequence filledRow x)
+  series : SeriesOf sequence filledSeries x y
+  series = ok-some (SeriesOf sequence filledSeries x) (fit .fits) (series-of sequence filledSeries x)
 
   pub fill-result : join sequence (filled (inner x)) ≡ y
   fill-result = let P : Node → Type 0 = λ y. join sequence (filled (inner x)) ≡ y in

@@ -8,6 +8,7 @@ use lib.ListN.{length, length-append}
 use Rattle.meaning.specs.Node.{Node, Node.empty, Node.bset, Node.assert, Node.group, Node.seq, Node.alt, Node.many, Proper}
 use Rattle.meaning.specs.Flat.{Kind, Kind.sequence, Kind.alternation, Not, parts, link, join, parts-link}
 use Rattle.meaning.specs.Results.{concatMap}
+use Rattle.table.specs.Table.{emptyKind}
 use Rattle.meaning.specs.All.{All}
 use Rattle.table.specs.Laws.{inner, countAll}
 use Rattle.tidying_laws.specs.Laws.{onParts}
@@ -30,7 +31,7 @@ skeletons-append (r ∷ l) m =
     rw (skeletons-append l m) (sym (append-assoc (skeleton r) (concatMap skeleton l) (concatMap skeleton m)))
 
 -- A law on the parts of a kind fits only a series of them, and is told of the parts inside it.
-pub record RowOf (k : Kind) (f : List Node → Option Node) (x y : Node) : Type 0 where
+pub record SeriesOf (k : Kind) (f : List Node → Option Node) (x y : Node) : Type 0 where
   pub says : token x ≡ rowToken k (length (inner x))
   pub fits : f (inner x) ≡ some y
   pub all : inner x ≡ parts k x
@@ -98,7 +99,7 @@ module _ {table table′ : List ℕ} {n top kept : ℕ} where
       more k ts (suc zero) z o = absurd (o refl)
       more k ts (suc (suc i)) z o = refl
 
--- Where parts are left that are not of the series's kind, they are joined.
+-- Where parts are left that are not of the series' kind, they are joined.
 pub record Rejoining (table : List ℕ) (n top kept : ℕ) (k : Kind) (parts : List Node) (l m : List Token) : Type 0 where
   pub old : ℕ
   pub says : Says table n (l ++ (concatMap skeleton parts ++ (rowToken k old ∷ m)))

@@ -6,6 +6,7 @@ use native.Mathlib.Omega.{arith}
 use lib.ListN.{length, getD, take, length-append}
 use Rattle.meaning.specs.Node.{Node}
 use Rattle.meaning.specs.Results.{concatMap}
+use Rattle.table.specs.Table.{itemsWord}
 use Rattle.table.specs.Table.{recordWords, recordCount, recordOf, records, wordOf}
 use Rattle.table.specs.Laws.{inner, kindOf, operandOf, lastOf}
 use Rattle.table.specs.Roots.{root-word, last-ends, shorter, inside}
@@ -51,10 +52,10 @@ pub record Turned (table : List ℕ) (n end left : ℕ) (before : List ℕ) (fro
       → Says table′ n′ (l ++ (concatMap skeleton front ++ ts′))
       → Walked table′ n′ (end - recordCount part) (left - 1) before front l ts′
 
-row-kept : {table table′ : List ℕ} {end left : ℕ} {before : List ℕ} {rest : List Node} → Series table end left before rest
+series-kept : {table table′ : List ℕ} {end left : ℕ} {before : List ℕ} {rest : List Node} → Series table end left before rest
     → take (recordWords * end) table′ ≡ take (recordWords * end) table → recordWords * end ≤ length table′
     → Series table′ end left before rest
-row-kept r e h =
+series-kept r e h =
     record { stands = record { below = e ∙ r .stands .below; room = h }; counted = r .counted; proper = r .proper }
 
 module _ {table : List ℕ} {n end left : ℕ} {before : List ℕ} (front : List Node) (q : Node) {l ts : List Token}
@@ -92,7 +93,7 @@ module _ {table : List ℕ} {n end left : ℕ} {before : List ℕ} (front : List
       w .low,
     );
     next = λ ts′ e s. record {
-      series = row-kept (shorter front q (w .series)) e (omega (
+      series = series-kept (shorter front q (w .series)) e (omega (
         arith,
         s .room,
         says-length s,

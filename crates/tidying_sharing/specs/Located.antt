@@ -11,7 +11,8 @@ use Rattle.table.specs.Table.{recordCount, records}
 use Rattle.table.specs.Laws.{inner, countAll, count-append, inner-count}
 use Rattle.tidying_laws.specs.Laws.{t8}
 use Rattle.table.specs.Stands.{Ends, Series, SomePart}
-use Rattle.table.specs.Roots.{inside, among-ends}
+use Rattle.table.specs.Roots.{among-ends}
+use Rattle.table.specs.Roots.{inside}
 use Rattle.tidying_fitting.specs.Parts.{Tells, room}
 use Rattle.tidying_fitting.specs.Words.{startOf}
 use Rattle.tidying_fitting.specs.Places.{endOf}

@@ -10,9 +10,11 @@ use Rattle.meaning.specs.Results.{concatMap}
 use Rattle.table.specs.Table.{recordCount, records}
 use Rattle.meaning.specs.All.{all-left, all-right}
 use Rattle.table.specs.Laws.{countAll, count-append, records-append, long-all, inner-count}
-use Rattle.table.specs.Roots.{Last, some-last, last-ends, shorter, front-series, among-ends}
+use Rattle.table.specs.Roots.{among-ends}
+use Rattle.table.specs.Roots.{stands-under, Last, some-last, last-ends, shorter}
 use Rattle.table.specs.Stands.{Ends, Series, SomePart}
-use Rattle.tidying_fitting.specs.Parts.{Tells, TellsBoth, room}
+use Rattle.tidying_fitting.specs.Parts.{Tells, TellsBoth}
+use Rattle.tidying_fitting.specs.Parts.{room}
 use Rattle.tidying_fitting.specs.Words.{startOf}
 use Rattle.tidying_fitting.specs.Marks.{alike}
 use Rattle.tidying_sharing.specs.Leads.{opening}

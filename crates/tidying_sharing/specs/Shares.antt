@@ -46,8 +46,8 @@ pub shares-of : (x y : Node) → t8 x ≡ some y → Shares x y
 unfolding share leftmost
 shares-of x y e = go (inner x) refl
   where
-    series : RowOf alternation sharedRow x y
-    series = ok-some (RowOf alternation sharedRow x) e (row-of alternation sharedRow x)
+    series : SeriesOf alternation sharedSeries x y
+    series = ok-some (SeriesOf alternation sharedSeries x) e (series-of alternation sharedSeries x)
 
     at-split : (p : Node) (l : List Node) (at : Split) (m : List Node) → inner x ≡ p ∷ l → join alternation m ≡ y
         → leftmost follows (p ∷ []) l ≡ some at → SharedAt (p ∷ l) m (behind p at) → Shares x y
@@ -68,9 +68,10 @@ shares-of x y e = go (inner x) refl
     }
 
     go : (ps : List Node) → inner x ≡ ps → Shares x y
-    go [] is = absurd (Option·none-ne-some y (sym (ap sharedRow is) ∙ series .fits))
+    go [] is = absurd (Option·none-ne-some y (sym (ap sharedSeries is) ∙ series .fits))
     go (p ∷ l) is =
-        let (m, shares, made) = map-eq-some-iff (join alternation) (share (p ∷ l)) .0 (sym (ap sharedRow is) ∙ series .fits) in
+        let (m, shares, made)
+        = map-eq-some-iff (join alternation) (share (p ∷ l)) .0 (sym (ap sharedSeries is) ∙ series .fits) in
         let (at, found) = is-some (leftmost follows (p ∷ []) l) (sym (share-leftmost [] p l) ∙ ap isSome shares) in
         at-split p l at m is made found (share-at [] p l m at found shares)
 
@@ -128,7 +129,7 @@ wrapped s [] h = absurd (omega arith)
 wrapped s (p ∷ []) h = absurd (omega arith)
 wrapped s (p ∷ q ∷ l) h =
     let r : Node = glues q l in
-    let (series, width) = glues-row q l in
+    let (series, width) = glues-series q l in
     let one : length (parts sequence (glue alternation p r)) ≡ 1 = glue-width (some sequence) alternation p r in
     let own : List Token = rowToken alternation (widths (p ∷ q ∷ l)) ∷ [] in
     let inside : skeletonIn (some sequence) (glue alternation p r) ≡ concatMap trimmed (p ∷ q ∷ l) ++ own
@@ -139,7 +140,7 @@ wrapped s (p ∷ q ∷ l) h =
     ∙ ap₂ (λ ts n. setToken s ∷ (ts ++ (rowToken sequence (suc n) ∷ []))) inside one
     ∙ ap (λ ts. setToken s ∷ ts) (append-assoc (concatMap trimmed (p ∷ q ∷ l)) own (rowToken sequence 2 ∷ []))
 
--- A series's own token stands behind its parts, unless there is one part only.
+-- A series' own token stands behind its parts, unless there is one part only.
 abbrev pub ending : ℕ → List Token → List Token
 ending zero m = m
 ending (suc zero) m = m
@@ -158,20 +159,20 @@ module _ {x y : Node} (k : Shares x y) (apart : All (Not alternation) (inner x))
   abbrev series : List Node
   series = k .front ++ (wrap ∷ after k)
 
-  row-apart : All (Not alternation) series
-  row-apart =
+  series-apart : All (Not alternation) series
+  series-apart =
       let whole = rw (split-run k) at apart in
       let behind = all-right (Not alternation) (k .front) (leads k ++ after k) whole in
       all-append (Not alternation) (k .front) (wrap ∷ after k)
       (all-left (Not alternation) (k .front) (leads k ++ after k) whole)
       (tt, all-right (Not alternation) (leads k) (after k) behind)
 
-  joined-row : join alternation series ≡ y
-  joined-row =
+  joined-series : join alternation series ≡ y
+  joined-series =
       ap (λ m. join alternation (k .front ++ (seq (bset (k .set)) (glued m) ∷ after k))) (sym (the-run k .trimmed)) ∙ k .result
 
-  row-length : length series ≡ length (k .front) + suc (length (after k))
-  row-length = length-append (k .front) (wrap ∷ after k)
+  series-length : length series ≡ length (k .front) + suc (length (after k))
+  series-length = length-append (k .front) (wrap ∷ after k)
 
   pub result-tokens : (kept : ℕ) (m : List Token) → kept ≡ length (k .front) + suc (length (after k))
       → skeleton y ++ m ≡ concatMap skeleton (k .front) ++ (setToken (k .set) ∷ (concatMap trimmed (rests k)
@@ -180,15 +181,15 @@ module _ {x y : Node} (k : Shares x y) (apart : All (Not alternation) (inner x))
       let front : List Token = concatMap skeleton (k .front) in
       let some : List Token = concatMap trimmed (rests k) in
       let behind : List Token = concatMap skeleton (after k) in
-      let rows : List Token = rowToken alternation (widths (rests k)) ∷ rowToken sequence 2 ∷ [] in
-      let tokens : concatMap skeleton series ≡ front ++ ((setToken (k .set) ∷ (some ++ rows)) ++ behind)
+      let owns : List Token = rowToken alternation (widths (rests k)) ∷ rowToken sequence 2 ∷ [] in
+      let tokens : concatMap skeleton series ≡ front ++ ((setToken (k .set) ∷ (some ++ owns)) ++ behind)
       = skeletons-append (k .front) (wrap ∷ after k)
       ∙ ap (λ ts. front ++ (ts ++ behind)) (wrapped (k .set) (rests k) (two-rests k)) in
-      ap (λ z. skeleton z ++ m) (sym joined-row)
-      ∙ ap (λ ts. ts ++ m) (sym (rejoined-join alternation series row-apart))
+      ap (λ z. skeleton z ++ m) (sym joined-series)
+      ∙ ap (λ ts. ts ++ m) (sym (rejoined-join alternation series series-apart))
       ∙ rejoined-ending (length series) (concatMap skeleton series) m (omega (arith, length-append (k .front) (wrap ∷ after k)))
-      ∙ ap₂ (λ ts n. ts ++ ending n m) tokens (row-length ∙ sym e)
-      ∙ regroup front some rows behind (ending kept m)
+      ∙ ap₂ (λ ts n. ts ++ ending n m) tokens (series-length ∙ sym e)
+      ∙ regroup front some owns behind (ending kept m)
     where
       regroup : (a b c d e : List Token)
           → (a ++ ((setToken (k .set) ∷ (b ++ c)) ++ d)) ++ e ≡ a ++ (setToken (k .set) ∷ (b ++ (c ++ (d ++ e))))

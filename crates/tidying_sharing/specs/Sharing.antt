@@ -4,17 +4,20 @@ use mathlib.Core.List.{List, [], _∷_, _++_, append-assoc}
 use Prim.Native.Nat.{ℕ, suc, _+_, _-_, _*_, _≤_, _<_}
 use native.Mathlib.Omega.{arith}
 use lib.ListN.{length, getD, take, drop, length-append}
+use Rattle.meaning.specs.Limits.{setWords}
+use Rattle.table.specs.Table.{setWord}
 use Rattle.meaning.specs.Node.{Node, Proper}
 use Rattle.meaning.specs.Flat.{Kind.sequence, Kind.alternation, Not}
 use Rattle.meaning.specs.Results.{concatMap}
-use Rattle.table.specs.Table.{recordWords, setWord}
-use Rattle.meaning.specs.Limits.{setWords}
+use Rattle.table.specs.Table.{recordWords, recordsWord, itemsWord}
 use Rattle.meaning.specs.All.{All, all-left, all-right}
-use Rattle.table.specs.Laws.{inner, inner-proper, parts-flat, countAll, count-append, inner-count}
+use Rattle.table.specs.Laws.{inner-proper}
+use Rattle.table.specs.Laws.{inner, parts-flat, countAll, count-append, inner-count}
 use Rattle.tidying_laws.specs.Laws.{t8}
 use Rattle.tidying_fitting.specs.Marks.{alike}
 use Rattle.table.specs.Stands.{Series}
-use Rattle.table.specs.Roots.{inside, front-series}
+use Rattle.table.specs.Roots.{front-series}
+use Rattle.table.specs.Roots.{inside}
 use Rattle.tidying_fitting.specs.Parts.{room}
 use Rattle.tidying_shapes.specs.Skeleton.{Token, token, rowToken, skeletonIn, skeleton}
 use Rattle.tidying_shapes.specs.Tokens.{Says}
@@ -22,7 +25,7 @@ use Rattle.tidying_shapes.specs.Laws.{says-length, says-at}
 use Rattle.tidying_shapes.specs.Told.{skeleton-count}
 use Rattle.tidying_rewriting.specs.Rewriting.{Fitting, SomeFitting, Rewrites, own-word, count}
 use Rattle.tidying_rewriting.specs.Own.{own-said, inside-here}
-use Rattle.tidying_rewriting.specs.Rows.{skeletons-count, skeletons-append, Rejoins}
+use Rattle.tidying_rewriting.specs.Series.{skeletons-count, skeletons-append, Rejoins}
 use Rattle.tidying_sharing.specs.Leads.{Lead, Lead.single, Lead.leading, opening}
 use Rattle.tidying_sharing.specs.Trims.{trimmed, lead-tokens}
 use Rattle.tidying_sharing.specs.Wraps.{setToken, Wraps}
@@ -153,7 +156,7 @@ module _ {table : List ℕ} {n top : ℕ} {before : List ℕ} {x y : Node} {l m 
     }
 
     -- The run begins with the set.
-    pub set-there : (recordWords * (from + 1) ≤ length table) × (take setWords (drop (recordWords * from + setWord) table) ≡ k .set)
+    pub set-there : (recordWords * (from + 1) ≤ length table) × (take 8 (drop (recordWords * from + 8) table) ≡ k .set)
     set-there =
         let (ts, e) = set-first (the-run k .all .0) in
         let tail : List Token = behind ++ (token x ∷ m) in
@@ -285,7 +288,7 @@ some-sharing s = record {
 
 pub shares : {table table₁ table₂ table₃ set : List ℕ} {n top from stop n₁ gone width items n₂ n₃ : ℕ}
     → Located from stop table top → set ≡ take setWords (drop (recordWords * (from + 1 - 1) + setWord) table)
-    → Shortens table table₁ n from stop n₁ gone width → items ≡ getD table (recordWords * (top - 1) + 3) 0
+    → Shortens table table₁ n from stop n₁ gone width → items ≡ getD table (recordWords * (top - 1) + itemsWord) 0
     → Rejoins table₁ table₂ n₁ (top + n₁ - n) (items - gone + 1) n₂
     → Wraps table₂ table₃ n₂ from (stop + n₁ - n) width set n₃ → Rewrites t8 table table₃ n top n₃
 shares {from = from} at e sh i cl w =

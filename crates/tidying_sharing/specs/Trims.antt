@@ -63,7 +63,7 @@ data Left : Node → Type 0 where
       → (last .kind ≡ alternationKind → ⊥) → Left r
 
 -- A series in a series of the other kind: its parts and its own token.
-row-own : (k : Kind) (r q : Node) → skeleton (pair k r q)
+series-own : (k : Kind) (r q : Node) → skeleton (pair k r q)
     ≡ skeletonIn (some k) (pair k r q) ++ (rowToken k (suc (length (parts k q))) ∷ [])
 series-own k r q =
     pair-own k r q ∙ ap (λ ts. ts ++ (rowToken k (suc (length (parts k q))) ∷ [])) (sym (pair-row k r q))

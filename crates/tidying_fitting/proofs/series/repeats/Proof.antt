@@ -30,7 +30,7 @@ same-part-requires : tie.Need-same-part-requires Inv-loop μ-loop
 same-part-requires c κs = let s = (c .before .before .before .before) .pre
     in (
       last-asked s,
-      last-asked (row-asked ((c .before .loop) .inv (s .before) (s .front) (s .last) (s .series))
+      last-asked (series-asked ((c .before .loop) .inv (s .before) (s .front) (s .last) (s .series))
           ((c .loop-test) .taken)),
     )
 
@@ -43,7 +43,7 @@ returns c = record {
 
 start-requires-2 : tie.Need-start-requires-2 Inv-loop μ-loop
 start-requires-2 c κs = let s = (c .before .before .before .before .before .before) .pre in last-asked
-    (row-asked ((c .before .before .before .loop) .inv (s .before) (s .front) (s .last) (s .series))
+    (series-asked ((c .before .before .before .loop) .inv (s .before) (s .front) (s .last) (s .series))
     ((c .before .before .loop-test) .taken))
 
 sub-left-2 : tie.Need-sub-left-2 Inv-loop μ-loop
