@@ -45,6 +45,9 @@ key-of row flag h =
     let b : flagOf (keyNumber row flag) ≡ flag = omega arith in
     rw (a, b)
 
+pub key-after : (row flag : ℕ) → flag < 2 → keyOf (keyNumber (row + 1) flag) ≡ at (suc row) (eqb flag 1)
+key-after row flag h = let e : row + 1 ≡ suc row = omega arith in rw e (key-of (suc row) flag h)
+
 pub key-next : (key : ℕ) → keyOf (nextKey key) ≡ at (suc (rowOf key)) (eqb (flagOf key) 1)
 key-next key =
     let a : rowOf (nextKey key) ≡ suc (rowOf key) = omega arith in
