@@ -103,7 +103,7 @@ module _ {code : List ℕ} {plan : Plan} {spot : Spot} {key : ℕ} {turn : Turn}
         let p = P in
         words-below s (turn .at) (plan .width) key (markOf spot) (omega (arith, g .low, g .lane .low))
 
-    pub ample : Ample plan spot (counted turn) marked
+    pub ample : Ample plan spot turn marked
     ample =
         let q = g .laid in
         let p = P in
@@ -158,7 +158,7 @@ module _ {code : List ℕ} {plan : Plan} {spot : Spot} {key : ℕ} {turn : Turn}
     }
 
     module _ {mv : Doing} {t : List ℕ} {x : Turn} (e : mv ≡ doing code spot key)
-        (w : Applied plan spot mv (counted turn) marked t x) where
+        (w : Applied plan spot mv turn marked t x) where
       same-marks : (i : ℕ) → i < plan .keys → getD t i 0 ≡ getD marked i 0
       same-marks = w .kept .marks
 
@@ -170,7 +170,7 @@ module _ {code : List ℕ} {plan : Plan} {spot : Spot} {key : ℕ} {turn : Turn}
           → step (movesOf code text) (machine (spot .position) (threadOf key (own s plan turn) ∷ (stackOf s plan turn ++ A))
           (queueOf s plan spot turn) ks b (c + turn .ran))
           ≡ machine (spot .position) (dropped (x .accept) (stackOf t plan x ++ A)) (queueOf t plan spot x) (keyOf key ∷ ks)
-          (bestOf (x .accept) (own t plan x) b) (c + x .ran)
+          (bestOf (x .accept) (own t plan x) b) (c + (x .ran + 1))
       steps-one text sees A ks b c h =
           let q = g .laid in
           let rs = own s plan turn in
@@ -192,7 +192,7 @@ module _ {code : List ℕ} {plan : Plan} {spot : Spot} {key : ℕ} {turn : Turn}
           ∙ best-eq (x .accept) rs (own t plan x) b (λ z. sym (w .words z ∙ words-kept)) in
           one ∙ by ∙ machine-eq (ap₂ dropped (sym (w .accept)) stack) queue best (omega (arith, w .ran))
 
-      pub executed-now : Executed code plan spot key turn s t x
+      pub executed-now : Executed code plan spot key turn s t (counted x)
       executed-now =
           let q = g .laid in
           let p = P in

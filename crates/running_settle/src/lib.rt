@@ -106,14 +106,7 @@ fn apply(work: &mut [u32], plan: Plan, spot: Spot, mut turn: Turn, mv: Move) -> 
 }
 
 // The turn of the thread of a key: one step of the machine. A key that is marked was executed at this position.
-fn execute(
-    code: &[u32],
-    work: &mut [u32],
-    plan: Plan,
-    spot: Spot,
-    key: usize,
-    mut turn: Turn,
-) -> Turn
+fn execute(code: &[u32], work: &mut [u32], plan: Plan, spot: Spot, key: usize, turn: Turn) -> Turn
     requires { ⌜ Ready (now code) × Serves (now code) plan × Turning plan spot key turn (now work) ⌝ }
     ensures { λ x. ⌜ Executed (now (code .entry)) plan spot key turn (now (work .entry)) (now (work .exit)) x ⌝ }
 {
@@ -123,13 +116,15 @@ fn execute(
         return turn;
     }
     work[key] = mark;
-    let ran = turn.ran;
-    turn.ran = ran + 1;
     let mv = running_moves::move_of(code, spot.before, spot.after, key);
-    apply(work, plan, spot, turn, mv)
+    let mut done = apply(work, plan, spot, turn, mv);
+    let ran = done.ran;
+    done.ran = ran + 1;
+    done
 }
 
-// The threads of a position run, the first with all that comes of it before the second. A winner's registers are kept.
+// The threads of a position run, the first with all that comes of it before the second. A winner's registers are kept. The last
+// turn says whether a thread won, how many are queued, and how many rows were executed.
 pub fn settle(code: &[u32], work: &mut [u32], plan: Plan, spot: Spot) -> Turn
     requires { ⌜ Ready (now code) × Serves (now code) plan ⌝ }
     requires { ⌜ Laid plan spot (length (now work)) × Opens plan spot (now work) ⌝ }
