@@ -1,46 +1,62 @@
 -- What a run promises. Definitions only.
 use mathlib.Core.Path.{_≡_}
-use mathlib.Core.Bool.{Bool, true, false}
-use mathlib.Core.Option.{Option, none, some}
-use mathlib.Core.List.{List, [], _∷_}
-use Prim.Native.Nat.{ℕ, _+_, _*_, _<_, _≤_}
-use lib.ListN.{length, getD, replicate}
+use mathlib.Core.Bool.{false}
+use mathlib.Core.Option.{none}
+use mathlib.Core.List.{List}
+use Prim.Native.Nat.{ℕ, _+_, _*_, _≤_}
+use lib.ListN.{getD, replicate}
 use Rattle.meaning.specs.Text.{registersOf}
 use Rattle.meaning.specs.Limits.{workspaceWords}
 use Rattle.machine.specs.Steps.{best, count}
 use Rattle.machine.specs.Words.{rowsSaid, groupsSaid}
 use Rattle.machine.specs.Replies.{runOf}
-use Rattle.running_threads.specs.Words.{Below, wordsAt}
+use Rattle.running_moves.specs.Keys.{keyNumber}
+use Rattle.running_threads.specs.Words.{wordsAt, Below}
 use Rattle.running_threads.specs.Threads.{nowhere}
 use Rattle.running_threads.specs.Held.{Planned}
 use Rattle.running_threads.specs.declared.Plan.{Plan}
 use Rattle.running_threads.specs.declared.Spot.{Spot}
-use Rattle.running_settle.specs.Moved.{bestOf, Sees}
+use Rattle.running_settle.specs.Moved.{bestOf, Serves}
 use Rattle.running.specs.declared.Ran.{Ran}
 
--- A plan for n rows and g groups.
-pub record PlanOf (n g : ℕ) (l : Plan) : Type 0 where
-  pub plan : Planned l
-  pub rows : l .rows ≡ n
-  pub width : l .width ≡ g * 2 + 2
+-- A plan of the words for code.
+pub record PlanOf (code : List ℕ) (plan : Plan) : Type 0 where
+  pub planned : Planned plan
+  pub serves : Serves code plan
 
--- A position of a text, with the bytes beside it, and its places.
-pub record SpotAt (text : List ℕ) (p a r n q z : ℕ) (sp : Spot) : Type 0 where
-  pub position : sp .position ≡ p
-  pub active : sp .active ≡ a
-  pub registers : sp .registers ≡ r
-  pub threads : sp .threads ≡ n
-  pub queue : sp .queue ≡ q
-  pub stored : sp .stored ≡ z
-  pub sees : Sees text sp
+-- The first position of a run: one thread, in the first of the two places for threads; the second is the queue's.
+abbrev pub firstSpot : Plan → ℕ → ℕ → ℕ → Spot
+firstSpot plan start before after = record {
+  position = start;
+  before = before;
+  after = after;
+  active = plan .keys;
+  registers = plan .olds + plan .depth;
+  threads = 1;
+  queue = plan .keys * 2;
+  stored = plan .olds + plan .depth + plan .depth;
+}
 
--- No key is marked, one thread begins at a row, and there is no result.
-pub record Prepared (l : Plan) (row : ℕ) (s t : List ℕ) : Type 0 where
-  pub marks : Below t 0 (l .keys) 1
-  pub key : getD t (l .keys) 0 ≡ row * 2 + 1
-  pub registers : wordsAt t (l .olds + l .depth) (l .width) ≡ replicate (l .width) nowhere
-  pub best : wordsAt t (l .best) (l .width) ≡ replicate (l .width) nowhere
-  pub tail : (j : ℕ) → l .best + l .width ≤ j → getD t j 0 ≡ getD s j 0
+-- The next position: the byte after is the byte before, and the threads and the queue change places.
+abbrev pub nextSpot : Spot → ℕ → ℕ → Spot
+nextSpot spot threads after = record {
+  position = spot .position + 1;
+  before = spot .after;
+  after = after;
+  active = spot .queue;
+  registers = spot .stored;
+  threads = threads;
+  queue = spot .active;
+  stored = spot .registers;
+}
+
+-- No key is marked, one thread begins at a row with the flag set, and there is no result.
+pub record Prepared (plan : Plan) (row : ℕ) (s t : List ℕ) : Type 0 where
+  pub marks : Below t 0 (plan .keys) 1
+  pub key : getD t (plan .keys) 0 ≡ keyNumber row 1
+  pub registers : wordsAt t (plan .olds + plan .depth) (plan .width) ≡ replicate (plan .width) nowhere
+  pub best : wordsAt t (plan .best) (plan .width) ≡ replicate (plan .width) nowhere
+  pub tail : (j : ℕ) → plan .best + plan .width ≤ j → getD t j 0 ≡ getD s j 0
 
 -- What the run of the steps answers; words behind those that a run needs stay.
 pub record RanAs (code text : List ℕ) (start row : ℕ) (s t : List ℕ) (r : Ran) : Type 0 where

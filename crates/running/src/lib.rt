@@ -1,18 +1,18 @@
 // A run: one position after the other is settled, until no thread is queued for the next.
 ghost use mathlib.Core.Path.{_≡_};
-ghost use mathlib.Core.Bool.{_||_};
-ghost use Prim.Native.Nat.{ℕ, _+_, _*_, _<_, _≤_};
+ghost use Prim.Native.Nat.{_+_, _<_, _≤_};
 ghost use lib.ListN.{length};
 ghost use Rattle.meaning.specs.Text.{byteBefore, byteAfter};
-ghost use Rattle.meaning.specs.Limits.{leastRows, rowLimit, positionLimit, workspaceWords};
+ghost use Rattle.meaning.specs.Limits.{positionLimit, workspaceWords};
 ghost use Rattle.machine.specs.Words.{rowsSaid, groupsSaid};
 ghost use Rattle.running_moves.specs.Chosen.{byteOf};
 ghost use Rattle.running_moves.specs.Ready.{Ready};
 ghost use Rattle.running_threads.specs.Held.{Planned};
-ghost use Rattle.running.specs.Ran.{PlanOf, SpotAt, Prepared, RanAs};
+ghost use Rattle.running.specs.Ran.{PlanOf, firstSpot, nextSpot, Prepared, RanAs};
 use machine::GROUPS;
 use machine::ROWS;
 use meaning::limits::NO_BYTE;
+use running_moves::CONSUMED;
 use running_threads::NOWHERE;
 use running_threads::Plan;
 use running_threads::Spot;
@@ -25,27 +25,20 @@ pub struct Ran {
     pub width: usize,
 }
 
-fn either(a: bool, b: bool) -> bool
-    ensures { λ r. ⌜ r ≡ (a || b) ⌝ }
+// Where things lie for the rows and groups that code says.
+fn plan_of(code: &[u32]) -> Plan
+    requires { ⌜ Ready (now code) ⌝ }
+    ensures { λ plan. ⌜ PlanOf (now (code .entry)) plan ⌝ }
 {
-    if a {
-        return true;
-    }
-    b
-}
-
-// Where things lie for n rows and g groups.
-fn plan_of(n: usize, g: usize) -> Plan
-    requires { ⌜ (leastRows ≤ n) × (n ≤ rowLimit) × (g * 2 + 2 ≤ n * 10) ⌝ }
-    ensures { λ l. ⌜ PlanOf n g l ⌝ }
-{
-    let keys = n * 2;
-    let width = g * 2 + 2;
+    let rows = running_threads::wide(code[ROWS]);
+    let groups = running_threads::wide(code[GROUPS]);
+    let keys = rows * 2;
+    let width = 2 * (groups + 1);
     let depth = keys * width;
     let tags = keys * 3;
     let olds = tags + depth;
     Plan {
-        rows: n,
+        rows: rows,
         keys: keys,
         width: width,
         depth: depth,
@@ -56,63 +49,73 @@ fn plan_of(n: usize, g: usize) -> Plan
 }
 
 // The byte after a position, and the byte before it.
-fn byte_after(text: &[u8], p: usize) -> u32
-    ensures { λ r. ⌜ byteOf r ≡ byteAfter (now (text .entry)) p ⌝ }
+fn byte_after(text: &[u8], position: usize) -> u32
+    ensures { λ r. ⌜ byteOf r ≡ byteAfter (now (text .entry)) position ⌝ }
 {
-    if p < text.len() {
-        return text[p] as u32;
+    if position < text.len() {
+        return text[position] as u32;
     }
     NO_BYTE
 }
 
-fn byte_before(text: &[u8], p: usize) -> u32
-    ensures { λ r. ⌜ byteOf r ≡ byteBefore (now (text .entry)) p ⌝ }
+fn byte_before(text: &[u8], position: usize) -> u32
+    ensures { λ r. ⌜ byteOf r ≡ byteBefore (now (text .entry)) position ⌝ }
 {
-    if 0 < p {
-        return byte_after(text, p - 1);
+    if 0 < position {
+        return byte_after(text, position - 1);
     }
     NO_BYTE
 }
 
-// A position of the text, with the places of its threads and of its queue.
-fn spot_at(
-    text: &[u8],
-    p: usize,
-    active: usize,
-    registers: usize,
-    threads: usize,
-    queue: usize,
-    stored: usize,
-) -> Spot
-    ensures { λ sp. ⌜ SpotAt (now (text .entry)) p active registers threads queue stored sp ⌝ }
+// The first position of a run, between two bytes.
+fn first_spot(plan: Plan, start: usize, before: u32, after: u32) -> Spot
+    requires { ⌜ Planned plan ⌝ }
+    ensures { λ spot. ⌜ spot ≡ firstSpot plan start before after ⌝ }
 {
-    let before = byte_before(text, p);
-    let after = byte_after(text, p);
+    let keys = plan.keys;
+    let depth = plan.depth;
+    let registers = plan.olds + depth;
     Spot {
-        position: p,
+        position: start,
         before: before,
         after: after,
-        active: active,
+        active: keys,
         registers: registers,
+        threads: 1,
+        queue: keys * 2,
+        stored: registers + depth,
+    }
+}
+
+// The position after another, with the byte after it: the queue's threads are active there.
+fn next_spot(spot: Spot, threads: usize, after: u32) -> Spot
+    requires { ⌜ spot .position + 1 < positionLimit ⌝ }
+    ensures { λ next. ⌜ next ≡ nextSpot spot threads after ⌝ }
+{
+    Spot {
+        position: spot.position + 1,
+        before: spot.after,
+        after: after,
+        active: spot.queue,
+        registers: spot.stored,
         threads: threads,
-        queue: queue,
-        stored: stored,
+        queue: spot.active,
+        stored: spot.registers,
     }
 }
 
 // No key is marked, the one thread is at a row with the flag set and no register set, and there is no result.
-fn prepare(work: &mut [u32], l: Plan, row: usize)
-    requires { ⌜ Planned l × (row < l .rows) × (l .best + l .width ≤ length (now work)) ⌝ }
-    ensures { λ _. ⌜ Prepared l row (now (work .entry)) (now (work .exit)) ⌝ }
+fn prepare(work: &mut [u32], plan: Plan, row: usize)
+    requires { ⌜ Planned plan × (row < plan .rows) × (plan .best + plan .width ≤ length (now work)) ⌝ }
+    ensures { λ _. ⌜ Prepared plan row (now (work .entry)) (now (work .exit)) ⌝ }
 {
-    let keys = l.keys;
-    let registers = l.olds + l.depth;
-    let best = l.best;
-    let width = l.width;
-    running_threads::fill(work, 0, keys, 0);
-    work[keys] = (row * 2 + 1) as u32;
-    running_threads::fill(work, registers, width, NOWHERE);
-    running_threads::fill(work, best, width, NOWHERE);
+    let keys = plan.keys;
+    let registers = plan.olds + plan.depth;
+    let width = plan.width;
+    running_threads::spread(work, 0, keys, 0);
+    work[keys] = (row * 2 + CONSUMED) as u32;
+    running_threads::spread(work, registers, width, NOWHERE);
+    running_threads::spread(work, plan.best, width, NOWHERE);
 }
 
 // The run of code on a text from a position and a row to its end.
@@ -122,35 +125,31 @@ pub fn run(code: &[u32], text: &[u8], start: usize, row: usize, work: &mut [u32]
     requires { ⌜ workspaceWords (rowsSaid (now code)) (groupsSaid (now code)) ≤ length (now work) ⌝ }
     ensures { λ r. ⌜ RanAs (now (code .entry)) (now (text .entry)) start row (now (work .entry)) (now (work .exit)) r ⌝ }
 {
-    let l = plan_of(
-        running_threads::wide(code[ROWS]),
-        running_threads::wide(code[GROUPS]),
+    let plan = plan_of(code);
+    prepare(work, plan, row);
+    let mut spot = first_spot(
+        plan,
+        start,
+        byte_before(text, start),
+        byte_after(text, start),
     );
-    prepare(work, l, row);
-    let first = l.olds + l.depth;
-    let mut sp = spot_at(text, start, l.keys, first, 1, l.keys * 2, first + l.depth);
     let mut found = false;
     let mut count: u64 = 0;
     loop {
-        let x = running_settle::settle(code, work, l, sp);
-        count += x.ran as u64;
-        found = either(found, x.accept);
-        if x.queued == 0 {
+        let turn = running_settle::settle(code, work, plan, spot);
+        let ran = turn.ran;
+        let queued = turn.queued;
+        count += ran as u64;
+        found = found | turn.accept;
+        if queued == 0 {
             return Ran {
                 found: found,
                 count: count,
-                best: l.best,
-                width: l.width,
+                best: plan.best,
+                width: plan.width,
             };
         }
-        sp = spot_at(
-            text,
-            sp.position + 1,
-            sp.queue,
-            sp.stored,
-            x.queued,
-            sp.active,
-            sp.registers,
-        );
+        let position = spot.position;
+        spot = next_spot(spot, queued, byte_after(text, position + 1));
     }
 }

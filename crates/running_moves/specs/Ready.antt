@@ -3,36 +3,36 @@ use mathlib.Core.Path.{_≡_, refl, sym, ap, subst, _∙_}
 use mathlib.Core.Bool.{Bool, true, false, cond, _||_, _&&_, false≢true}
 use mathlib.Core.Option.{Option}
 use mathlib.Core.List.{List}
-use mathlib.Core.Logic.{_⊎_, inl, inr, ⊎-elim}
-use Prim.Native.Nat.{ℕ, zero, suc, _+_, _*_, _-_, _/_, _%_, _≤_, _<_}
+use Prim.Native.Nat.{ℕ, suc, _+_, _-_, _≤_, _<_}
 use native.Mathlib.Omega.{arith}
 use native.Mathlib.Decide.{decLt}
 use lib.Dec.{eqb, leb, ltb}
-use lib.ListN.{length, getD}
+use lib.ListN.{length}
 use borrow.Author.Tests.{ltb-true, leb-true, eqb-true}
 use Rattle.sets.specs.Sets.{below, between, has}
 use Rattle.sets.specs.Bits.{below-at}
 use Rattle.meaning.specs.Tests.{and-true, by-test}
-use Rattle.meaning.specs.Text.{passes}
+use Rattle.meaning.specs.Text.{passes, registersOf}
 use Rattle.meaning.specs.Bytes.{asserts}
-use Rattle.meaning.specs.Limits.{groupLimit, rowLimit, leastRows, rowWords, codeWords}
+use Rattle.meaning.specs.Limits.{groupLimit, rowLimit, leastRows, codeWords}
 use Rattle.machine.specs.Rows.{Row, Row.accept, Row.consume, Row.jump, Row.fork, Row.opens, Row.closes, Row.reset}
 use Rattle.machine.specs.Rows.{Row.begin, Row.end, Row.assertion}
-use Rattle.machine.specs.Rows.{Program, rowCount, rowAt}
-use Rattle.machine.specs.Kinds.{listed}
+use Rattle.machine.specs.Rows.{rowCount, rowAt}
+use Rattle.machine.specs.Kinds.{firstWord, secondWord, acceptKind, assertKind, listed}
 use Rattle.machine.specs.Words.{wordAt, rowsSaid, groupsSaid, rowStart, decodeRow, rowIn, rowsIn, decode, rowPasses}
 use Rattle.machine.specs.Words.{mayBeLast, eachPasses, lastPasses, rowsPass, headerPasses, codePasses}
 use Rattle.machine.specs.Coded.{rowsIn-at, rowsIn-length}
-use Rattle.running_moves.specs.Chosen.{chosen, Ranged}
+use Rattle.running_moves.specs.Keys.{keyNumber, keysOf, rowOf, flagOf, nextKey}
+use Rattle.running_moves.specs.Chosen.{setIn, chosen, Ranged}
 use Rattle.running_moves.specs.declared.Move.{Move}
 
 -- What the check says.
 pub record Ready (code : List ℕ) : Type 0 where
-  pub size : 12 * (rowsSaid code + 1) ≤ length code
+  pub size : codeWords (rowsSaid code) ≤ length code
   pub least : leastRows ≤ rowsSaid code
   pub most : rowsSaid code ≤ rowLimit
   pub groups : groupsSaid code ≤ groupLimit
-  pub listed : (q : ℕ) → q < rowsSaid code → (1 ≤ wordAt code (rowStart q)) × (wordAt code (rowStart q) ≤ 10)
+  pub listed : (q : ℕ) → q < rowsSaid code → (acceptKind ≤ wordAt code (rowStart q)) × (wordAt code (rowStart q) ≤ assertKind)
   pub passing : (q : ℕ) → q < rowsSaid code → rowPasses (rowsSaid code) (groupsSaid code) (rowIn code q) ≡ true
   pub next : (q : ℕ) → q < rowsSaid code → mayBeLast (rowIn code q) ≡ false → suc q < rowsSaid code
   pub rows : rowsPass (decode code) ≡ true
@@ -96,20 +96,21 @@ module _ (code : List ℕ) (pass : codePasses code ≡ true) where
     least = within leastRows rowLimit n (header .0) .0;
     most = within leastRows rowLimit n (header .0) .1;
     groups = leb-true g groupLimit (header .1);
-    listed = λ q h. within 1 10 (wordAt code (rowStart q))
+    listed = λ q h. within acceptKind assertKind (wordAt code (rowStart q))
         (below-at n (λ q. listed (wordAt code (rowStart q))) (kinds .1) q h);
     passing = each;
     next = after;
     rows = parts .1;
   }
 
--- A row from its kind.
-pub row-is : (code : List ℕ) (q kind : ℕ) → wordAt code (rowStart q) ≡ kind
-    → rowIn code q ≡ decodeRow kind (wordAt code (rowStart q + 1)) (wordAt code (rowStart q + 2))
-    (lib.ListN.take 8 (lib.ListN.drop (rowStart q + 4) code))
+-- Row q as a row of a kind, and that it is the row of the kind that the code says.
+abbrev pub rowOfKind : List ℕ → ℕ → ℕ → Row
+rowOfKind code q kind =
+    decodeRow kind (wordAt code (rowStart q + firstWord)) (wordAt code (rowStart q + secondWord)) (setIn code q)
+
+pub row-is : (code : List ℕ) (q : ℕ) {kind : ℕ} → wordAt code (rowStart q) ≡ kind → rowIn code q ≡ rowOfKind code q kind
 unfolding rowIn
-row-is code q kind e = ap (λ k. decodeRow k (wordAt code (rowStart q + 1)) (wordAt code (rowStart q + 2))
-    (lib.ListN.take 8 (lib.ListN.drop (rowStart q + 4) code))) e
+row-is code q e = rw e
 
 -- The registers of a Reset.
 resets : (l h g : ℕ) → ((leb 1 l && leb l h && leb h g) || (eqb l 1 && eqb h 0)) ≡ true → (1 ≤ l) × (h ≤ g)
@@ -126,15 +127,15 @@ resets l h g e = go (leb 1 l && leb l h && leb h g) refl e
         (omega arith, omega arith)
 
 -- Rows that pass lead to keys of the program and write its registers.
-module _ (n g key : ℕ) (before after : Option ℕ) (low : key < n * 2) where
-  may : (b : Bool) (k : ℕ) → k < n * 2 → Ranged n (g * 2 + 2) (cond b (Move.On k) Move.Lose)
-  may b k h = by-test (Ranged n (g * 2 + 2)) b (λ e. h) (λ e. tt)
+module _ (n g key : ℕ) (before after : Option ℕ) (low : key < keysOf n) where
+  may : (b : Bool) (k : ℕ) → k < keysOf n → Ranged n (registersOf g) (cond b (Move.On k) Move.Lose)
+  may b k h = by-test (Ranged n (registersOf g)) b (λ e. h) (λ e. tt)
 
-  pub ranged : (row : Row) → rowPasses n g row ≡ true → (mayBeLast row ≡ false → suc (key / 2) < n)
-      → Ranged n (g * 2 + 2) (chosen before after key row)
+  pub ranged : (row : Row) → rowPasses n g row ≡ true → (mayBeLast row ≡ false → suc (rowOf key) < n)
+      → Ranged n (registersOf g) (chosen before after key row)
   ranged accept e next = tt
   ranged (consume s) e next =
-      by-test (Ranged n (g * 2 + 2)) (passes (has s) after) (λ t. let h = next refl in omega arith) (λ t. tt)
+      by-test (Ranged n (registersOf g)) (passes (has s) after) (λ t. let h = next refl in omega arith) (λ t. tt)
   ranged (jump t) e next = omega (arith, ltb-true t n e)
   ranged (fork t u) e next =
       let h = and-true (ltb t n) (ltb u n) e in
@@ -143,12 +144,12 @@ module _ (n g key : ℕ) (before after : Option ℕ) (low : key < n * 2) where
   ranged (closes k) e next = let h = next refl in (omega (arith, leb-true k g e), omega arith)
   ranged (reset l h) e next = let m = next refl in let r = resets l h g e in (omega arith, omega arith, omega arith)
   ranged begin e next = let h = next refl in omega arith
-  ranged (end t) e next = may (eqb (key % 2) 1) (t * 2 + key % 2) (omega (arith, ltb-true t n e))
-  ranged (assertion a) e next = let h = next refl in may (asserts a before after) (key + 2) (omega arith)
+  ranged (end t) e next = may (eqb (flagOf key) 1) (keyNumber t (flagOf key)) (omega (arith, ltb-true t n e))
+  ranged (assertion a) e next = let h = next refl in may (asserts a before after) (nextKey key) (omega arith)
 
 -- The same of code that passes.
-pub ranged-in : {code : List ℕ} → Ready code → (key : ℕ) (before after : Option ℕ) → key < rowsSaid code * 2
-    → Ranged (rowsSaid code) (groupsSaid code * 2 + 2) (chosen before after key (rowIn code (key / 2)))
+pub ranged-in : {code : List ℕ} → Ready code → (key : ℕ) (before after : Option ℕ) → key < keysOf (rowsSaid code)
+    → Ranged (rowsSaid code) (registersOf (groupsSaid code)) (chosen before after key (rowIn code (rowOf key)))
 ranged-in {code} r key before after h =
-    ranged (rowsSaid code) (groupsSaid code) key before after h (rowIn code (key / 2)) (r .passing (key / 2) (omega arith))
-    (r .next (key / 2) (omega arith))
+    ranged (rowsSaid code) (groupsSaid code) key before after h (rowIn code (rowOf key)) (r .passing (rowOf key) (omega arith))
+    (r .next (rowOf key) (omega arith))

@@ -1,178 +1,173 @@
 -- A move, on the words: what each of the seven leaves.
-use mathlib.Core.Path.{_≡_, refl, sym, ap, ap₂, _∙_, subst}
-use mathlib.Core.Logic.{_⊎_, inl, inr, ⊎-elim}
-use mathlib.Core.Bool.{Bool, true, false, true≢false}
+use mathlib.Core.Path.{_≡_, refl, sym, ap, _∙_, subst}
+use mathlib.Core.Logic.{⊎-elim, inl, inr}
+use mathlib.Core.Bool.{true, false, true≢false}
 use mathlib.Core.List.{List, [], _∷_, _++_, append-nil}
-use Prim.Native.Nat.{ℕ, zero, suc, _+_, _*_, _-_, _<_, _≤_}
-use native.Mathlib.Nat.{mul-le-mul-right}
+use Prim.Native.Nat.{ℕ, _+_, _-_, _<_, _≤_}
 use native.Mathlib.Omega.{arith}
-use lib.ListN.{length, getD, set, length-set}
+use lib.ListN.{length, getD, set}
 use lib.Seq.{getD-set-same}
 use Rattle.machine.specs.Steps.{Thread}
+use Rattle.running_moves.specs.Chosen.{Ranged}
 use Rattle.running_moves.specs.declared.Move.{Move as Doing}
 use Rattle.running_moves.specs.declared.Move.the-variants.{Win, Lose, Eat, On, Both, Write, Wipe}
-use Rattle.running_threads.specs.Words.{Below, Only, wordsAt}
-use Rattle.running_threads.specs.Threads.{threadOf, wipe, held}
-use Rattle.running_threads.specs.Held.{Planned, Frame, Laid, stacked, queued, Tags, Apart, Kept, Wrote, ResetTo, Queued}
-use Rattle.running_threads.specs.Queues.{held-same, lane}
-use Rattle.running_threads.specs.Laws.{frame-len, below-same, below-one, below-at, apart-refl, apart-trans}
-use Rattle.running_threads.specs.Active.{apart-kept, kept-refl}
-use Rattle.running_threads.specs.Queues.{queue-stack, queue-tags, queue-kept}
-use Rattle.running_threads.specs.Laws.{pushed-words, pushed-stack}
-use Rattle.running_threads.specs.Laws.{pushed-apart, pushed-tags}
+use Rattle.running_threads.specs.Words.{Clear}
+use Rattle.running_threads.specs.Threads.{threadOf, wipe}
+use Rattle.running_threads.specs.Held.{Frame, stacked, Tags, Apart, Wrote, Wiped, Queued}
+use Rattle.running_threads.specs.Laws.{below-same, below-one, apart-refl, apart-trans, stack-on, pushed}
+use Rattle.running_threads.specs.Queues.{waiting-same, queue-fits, queue-stack, queue-tags, queue-kept}
+use Rattle.running_threads.specs.Active.{stays-refl, apart-kept}
 use Rattle.running_threads.specs.declared.Plan.{Plan}
 use Rattle.running_threads.specs.declared.Spot.{Spot}
-use Rattle.running_settle.specs.Moved.{pushes, eaten, wins, Lane, Applied}
-use Rattle.running_settle.specs.declared.Moved.{Moved}
+use Rattle.running_settle.specs.Moved.{pushes, eaten, wins, own, stackOf, queueOf, Room, Ample, framed, Went, Applied}
+use Rattle.running_settle.specs.declared.Turn.{Turn}
 
--- A key on top of d frames.
-pub record Pushed (l : Plan) (r d k : ℕ) (s t : List ℕ) : Type 0 where
-  pub words : wordsAt t r (l .width) ≡ wordsAt s r (l .width)
-  pub stack : stacked t l r (d + 1) ≡ threadOf k (wordsAt s r (l .width)) ∷ stacked s l r d
-  pub apart : Apart l r s t
-  pub tags : Tags t l (d + 1)
-  pub long : length t ≡ length s
+-- ---- moves that only put threads first
 
-pub pushed : {l : Plan} {r d k : ℕ} {s t : List ℕ} → Frame l r (length s) → d < l .depth → Tags s l d → k < l .keys
-    → t ≡ set s (l .tags + d) k → Pushed l r d k s t
-pushed {l} {r} {d} {k} {s} {t} f dl bl kl e =
-    subst (λ (u : List ℕ). Pushed l r d k s u) (sym e)
-    (record {
-      words = pushed-words l r d s f dl bl k kl;
-      stack = pushed-stack l r d s f dl bl k kl;
-      apart = pushed-apart l r d s f dl bl k kl;
-      tags = pushed-tags l r d s f dl bl k kl;
-      long = length-set s (l .tags + d) k;
-    })
+module _ {plan : Plan} {turn : Turn} {s : List ℕ} (r : Room plan turn s) where
+  -- a key on top of words that changed only on the stack and at the registers
+  topped : {n top key : ℕ} {first : List ℕ → List Thread} {rs m t : List ℕ} → length m ≡ length s → Apart plan (turn .at) s m
+      → Tags m plan top → top + 1 ≤ turn .frames + plan .width → own m plan turn ≡ rs → key < plan .keys
+      → t ≡ set m (plan .tags + top) key
+      → threadOf key rs ∷ stacked m plan (turn .at) top ≡ first (own s plan turn) ++ stackOf s plan turn
+      → n ≡ top + 1 → Went plan first turn s t (framed turn n)
+  topped {n} {top} {key} {first} {rs} {m} {t} len a below most words low e stack en =
+      let q = pushed (stack-on len (r .stack) (omega (arith, most, r .deep)) below) (omega (arith, most, r .deep)) low e in
+      subst (λ (k : ℕ). Went plan first turn s t (framed turn k)) (sym en)
+      (record {
+        same = refl;
+        stack = q .stack ∙ ap (λ (ws : List ℕ). threadOf key ws ∷ stacked m plan (turn .at) top) words ∙ stack;
+        below = q .below;
+        apart = apart-trans a (q .apart);
+        most = most;
+      })
 
-module _ {l : Plan} {sp : Spot} {r d m : ℕ} {s : List ℕ} (q : Laid l sp (length s)) (v : Lane l sp r)
-    (dl : d + l .width ≤ l .depth) (ml : m < l .keys) (bl : Tags s l d) where
-  pub lane-frame : Frame l r (l .best)
-  lane-frame = let P = q .plan in record { plan = P; after = omega arith; end = omega arith }
+  pub does-on : {key : ℕ} {t : List ℕ} → Ranged (plan .rows) (plan .width) (On key)
+      → t ≡ set s (plan .tags + turn .frames) key → Went plan (pushes 0 (On key)) turn s t (framed turn (turn .frames + 1))
+  does-on low e =
+      let z = r .stack .frame .planned in
+      topped refl apart-refl (r .stack .tags) (omega arith) refl (omega arith) e refl refl
 
-  pub lane-in : Frame l r (length s)
-  lane-in = let P = q .plan in record { plan = P; after = omega arith; end = omega arith }
+  pub does-both : {first second : ℕ} {m t : List ℕ} → Ranged (plan .rows) (plan .width) (Both first second)
+      → m ≡ set s (plan .tags + turn .frames) second → t ≡ set m (plan .tags + (turn .frames + 1)) first
+      → Went plan (pushes 0 (Both first second)) turn s t (framed turn (turn .frames + 2))
+  does-both {first} low e e′ =
+      let z = r .stack .frame .planned in
+      let q = pushed (r .stack) (omega (arith, r .deep)) (omega arith) e in
+      topped (q .long) (q .apart) (q .below) (omega arith) (q .words) (omega arith) e′
+      (ap (λ (ts : List Thread). threadOf first (own s plan turn) ∷ ts) (q .stack)) (omega arith)
 
-  pub lane-off : (r + l .width ≤ sp .stored) ⊎ (sp .stored + l .depth ≤ r)
-  lane-off = ⊎-elim (λ (u : sp .registers + l .depth ≤ sp .stored). inl (omega arith))
-      (λ (u : sp .stored + l .depth ≤ sp .registers). inr (omega arith)) (q .apart)
+  pub does-write : {p register key : ℕ} {m t : List ℕ} → Ranged (plan .rows) (plan .width) (Write register key)
+      → length m ≡ length s → Wrote plan (turn .at) (turn .frames) register p s m
+      → t ≡ set m (plan .tags + (turn .frames + 1)) key
+      → Went plan (pushes p (Write register key)) turn s t (framed turn (turn .frames + 2))
+  does-write {p} {register} {key} low len w e =
+      let z = r .stack .frame .planned in
+      topped len (w .apart) (w .below) (omega arith) (w .words) (omega arith) e
+      (ap (λ (ts : List Thread). threadOf key (set (own s plan turn) register p) ∷ ts) (w .stack)) (omega arith)
 
-  -- the queue stays where only the stack and the registers at r changed
-  apart-queue : {t : List ℕ} → length t ≡ length s → Apart l r s t → queued t l sp m ≡ queued s l sp m
-  apart-queue {t} e a =
-      let P = q .plan in
-      let ln : m * l .width + l .width ≤ l .keys * l .width = lane m (l .keys) (l .width) ml in
-      held-same s t (sp .queue) (sp .stored) (l .width) m e (omega arith) (λ i lo hi. a .low i (omega arith))
-      (λ i lo hi. ⊎-elim (λ (u : r + l .width ≤ sp .stored). a .high i (omega arith))
-      (λ (u : sp .stored + l .depth ≤ r). a .mid i (omega arith) (omega arith)) lane-off)
+  pub does-wipe : {from to key top : ℕ} {m t : List ℕ} → Ranged (plan .rows) (plan .width) (Wipe from to key)
+      → length m ≡ length s → Wiped plan (turn .at) (turn .frames) from (to - from) s m top
+      → t ≡ set m (plan .tags + top) key → Went plan (pushes 0 (Wipe from to key)) turn s t (framed turn (top + 1))
+  does-wipe {from} {to} {key} low len w e =
+      let z = r .stack .frame .planned in
+      topped len (w .apart) (w .below) (omega (arith, w .most)) (w .words) (omega arith) e
+      (ap (λ (ts : List Thread). threadOf key (wipe (to - from) from (own s plan turn)) ∷ ts) (w .stack)) refl
 
-  -- a move that neither wins nor queues
-  goes : (mv : Doing) (t : List ℕ) (e : ℕ) → wins mv ≡ false → eaten mv (wordsAt s r (l .width)) ≡ []
-      → stacked t l r e ≡ pushes (sp .position) mv (wordsAt s r (l .width)) ++ stacked s l r d
-      → Apart l r s t → length t ≡ length s → Tags t l e → e ≤ d + l .width
-      → Applied l sp mv r d m s t (record { accept = false; frames = e; queued = m })
-  goes mv t e nw ne st a len bt el =
-      let P = q .plan in
-      record {
-        stack = st;
-        queue = apart-queue len a ∙ sym (append-nil (queued s l sp m))
-            ∙ ap (λ (ts : List Thread). queued s l sp m ++ ts) (sym ne);
-        accept = sym nw;
-        words = λ z. absurd (true≢false (sym z));
-        kept = apart-kept q (omega arith) a;
-        below = bt;
-        keys = λ b. below-same b (λ i lt. a .low (sp .queue + i) (omega arith));
-        most = el;
-        more = omega arith;
-      }
+-- ---- all moves
 
-  pub does-win : Applied l sp Win r d m s s (record { accept = true; frames = d; queued = m })
+module _ {plan : Plan} {spot : Spot} {turn : Turn} {s : List ℕ} (a : Ample plan spot turn s) where
+  pub lane-frame : Frame plan (turn .at) (plan .best)
+  lane-frame =
+      let q = a .laid in
+      let p = q .planned in
+      record { planned = p; after = omega (arith, a .lane .low); end = omega (arith, a .lane .high) }
+
+  pub lane-clear : Clear (turn .at) (plan .width) (spot .stored) (plan .depth)
+  lane-clear =
+      let v = a .lane in
+      ⊎-elim (λ (u : spot .registers + plan .depth ≤ spot .stored). inl (omega arith))
+      (λ (u : spot .stored + plan .depth ≤ spot .registers). inr (omega arith)) (a .laid .apart)
+
+  pub does-win : Applied plan spot Win turn s s
+      (record { at = turn .at; frames = turn .frames; queued = turn .queued; ran = turn .ran; accept = true })
   does-win =
       record {
+        at = refl;
         stack = refl;
-        queue = sym (append-nil (queued s l sp m));
+        queue = sym (append-nil (queueOf s plan spot turn));
         accept = refl;
         words = λ z. refl;
-        kept = kept-refl;
-        below = bl;
+        kept = record { marks = λ i lt. refl; stays = stays-refl };
+        below = a .room .stack .tags;
         keys = λ b. b;
         most = omega arith;
         more = omega arith;
+        ran = refl;
       }
 
-  pub does-lose : Applied l sp Lose r d m s s (record { accept = false; frames = d; queued = m })
-  does-lose = goes Lose s d refl refl refl apart-refl refl bl (omega arith)
-
-  pub does-eat : {k : ℕ} {t : List ℕ} → k < l .keys → Queued l sp r m k s t
-      → Applied l sp (Eat k) r d m s t (record { accept = false; frames = d; queued = m + 1 })
-  does-eat {k} {t} kl c =
-      let P = q .plan in
+  -- a move that only puts threads first
+  pub goes : (mv : Doing) {t : List ℕ} {x : Turn} → wins mv ≡ false → eaten mv (own s plan turn) ≡ [] → length t ≡ length s
+      → Went plan (pushes (spot .position) mv) turn s t x → Applied plan spot mv turn s t x
+  goes mv {t} {x} stops none len w =
+      let q = a .laid in
+      let p = q .planned in
       let f = lane-frame in
-      let o = lane-off in
-      let ln : m * l .width + l .width ≤ l .keys * l .width = lane m (l .keys) (l .width) ml in
-      let there : getD t (sp .queue + m) 0 ≡ k = c .regs .before (sp .queue + m) (omega arith)
-      ∙ getD-set-same s (sp .queue + m) k 0 (omega arith) in
+      let clear = lane-clear in
+      subst (Applied plan spot mv turn s t) (sym (w .same))
+      (record {
+        at = refl;
+        stack = w .stack;
+        queue =
+            waiting-same s t q (omega (arith, a .few)) len (λ i lo hi. w .apart .low i hi)
+            (λ i lo hi. ⊎-elim (λ (u : turn .at + plan .width ≤ spot .stored). w .apart .high i (omega arith))
+            (λ (u : spot .stored + plan .depth ≤ turn .at). w .apart .mid i (omega arith) (omega arith)) clear)
+            ∙ sym (append-nil (queueOf s plan spot turn))
+            ∙ ap (λ (ts : List Thread). queueOf s plan spot turn ++ ts) (sym none);
+        accept = a .going ∙ sym stops;
+        words = λ z. absurd (true≢false (sym z ∙ a .going));
+        kept = apart-kept q (f .end) (w .apart);
+        below = w .below;
+        keys = λ b. below-same b (λ i lt. w .apart .low (spot .queue + i) (omega (arith, a .few)));
+        most = w .most;
+        more = omega arith;
+        ran = refl;
+      })
+
+  pub does-lose : Applied plan spot Lose turn s s turn
+  does-lose =
+      goes Lose refl refl refl
+      (record { same = refl; stack = refl; below = a .room .stack .tags; apart = apart-refl; most = omega arith })
+
+  pub does-eat : {key : ℕ} {t : List ℕ} → Ranged (plan .rows) (plan .width) (Eat key)
+      → Queued plan spot (turn .at) (turn .queued) key s t
+      → Applied plan spot (Eat key) turn s t
+      (record { at = turn .at; frames = turn .frames; queued = turn .queued + 1; ran = turn .ran; accept = turn .accept })
+  does-eat {key} {t} low c =
+      let q = a .laid in
+      let p = q .planned in
+      let place : ℕ = spot .queue + turn .queued in
+      let fits = queue-fits q (a .few) in
+      let there : getD t place 0 ≡ key =
+      c .regs .before place (omega (arith, a .few)) ∙ getD-set-same s place key 0 (omega (arith, a .few)) in
+      let k = a .room .stack in
       record {
-        stack = queue-stack l sp r m k s t f q o ml c d (omega arith);
+        at = refl;
+        stack = queue-stack q lane-frame lane-clear (a .few) c (turn .frames) (k .most);
         queue = c .queue;
-        accept = refl;
-        words = λ z. absurd (true≢false (sym z));
-        kept = queue-kept l sp r m k s t f q o ml c (v .low);
-        below = queue-tags l sp r m k s t f q o ml c d (omega arith) bl;
-        keys = λ b. below-one b (λ i lt. c .keys (sp .queue + i) (omega arith) (λ z. omega arith)) (omega (arith, there));
+        accept = a .going;
+        words = λ z. absurd (true≢false (sym z ∙ a .going));
+        kept = queue-kept q lane-frame lane-clear (a .few) c (a .lane .low);
+        below = queue-tags q lane-frame lane-clear (a .few) c (turn .frames) (k .most) (k .tags);
+        keys = λ b. below-one b (λ i lt. c .keys (spot .queue + i) (omega (arith, a .few)) (λ z. omega arith))
+            (omega (arith, there));
         most = omega arith;
         more = omega arith;
+        ran = refl;
       }
 
-  pub does-on : {k : ℕ} {t : List ℕ} → k < l .keys → t ≡ set s (l .tags + d) k
-      → Applied l sp (On k) r d m s t (record { accept = false; frames = d + 1; queued = m })
-  does-on {k} {t} kl e =
-      let P = q .plan in
-      let p = pushed lane-in (omega arith) bl kl e in
-      goes (On k) t (d + 1) refl refl (p .stack) (p .apart) (p .long) (p .tags) (omega arith)
-
-  pub does-both : {k j : ℕ} {s1 t : List ℕ} → k < l .keys → j < l .keys → s1 ≡ set s (l .tags + d) j
-      → t ≡ set s1 (l .tags + (d + 1)) k
-      → Applied l sp (Both k j) r d m s t (record { accept = false; frames = d + 2; queued = m })
-  does-both {k} {j} {s1} {t} kl jl e e1 =
-      let P = q .plan in
-      let p = pushed lane-in (omega arith) bl jl e in
-      let p1 = pushed (frame-len (p .long) lane-in) (omega arith) (p .tags) kl e1 in
-      let two : d + 2 ≡ d + 1 + 1 = omega arith in
-      goes (Both k j) t (d + 2) refl refl
-      (ap (stacked t l r) two ∙ p1 .stack
-      ∙ ap₂ (λ (w : List ℕ) (ts : List Thread). threadOf k w ∷ ts) (p .words) (p .stack))
-      (apart-trans (p .apart) (p1 .apart)) (p1 .long ∙ p .long) (below-at two (p1 .tags)) (omega arith)
-
-  pub does-write : {n k v : ℕ} {s1 t : List ℕ} → k < l .keys → v ≡ sp .position → length s1 ≡ length s
-      → Wrote l r d n v s s1 → t ≡ set s1 (l .tags + (d + 1)) k
-      → Applied l sp (Write n k) r d m s t (record { accept = false; frames = d + 2; queued = m })
-  does-write {n} {k} {v} {s1} {t} kl ev len w e1 =
-      let P = q .plan in
-      let p1 = pushed (frame-len len lane-in) (omega arith) (w .below) kl e1 in
-      let two : d + 2 ≡ d + 1 + 1 = omega arith in
-      goes (Write n k) t (d + 2) refl refl
-      (ap (stacked t l r) two ∙ p1 .stack
-      ∙ ap₂ (λ (x : List ℕ) (ts : List Thread). threadOf k x ∷ ts) (w .words ∙ ap (set (wordsAt s r (l .width)) n) ev)
-      (w .stack))
-      (apart-trans (w .apart) (p1 .apart)) (p1 .long ∙ len) (below-at two (p1 .tags)) (omega arith)
-
-  pub does-wipe : {from to k e : ℕ} {s1 t : List ℕ} → 2 ≤ from → to ≤ l .width → k < l .keys → length s1 ≡ length s
-      → ResetTo l r d from to s s1 e → t ≡ set s1 (l .tags + e) k
-      → Applied l sp (Wipe from to k) r d m s t (record { accept = false; frames = e + 1; queued = m })
-  does-wipe {from} {to} {k} {e} {s1} {t} lo hi kl len w e1 =
-      let P = q .plan in
-      let p1 = pushed (frame-len len lane-in) (omega (arith, w .most)) (w .below) kl e1 in
-      goes (Wipe from to k) t (e + 1) refl refl
-      (p1 .stack ∙ ap₂ (λ (x : List ℕ) (ts : List Thread). threadOf k x ∷ ts) (w .words) (w .stack))
-      (apart-trans (w .apart) (p1 .apart)) (p1 .long ∙ len) (p1 .tags) (omega (arith, w .most))
-
 -- what holds of a move holds of an equal one
-pub as-move : {l : Plan} {sp : Spot} {mv mv′ : Doing} {r d m : ℕ} {s t : List ℕ} {x : Moved} → mv ≡ mv′
-    → Applied l sp mv′ r d m s t x → Applied l sp mv r d m s t x
-as-move {l} {sp} {mv} {mv′} {r} {d} {m} {s} {t} {x} e a = subst (λ (z : Doing). Applied l sp z r d m s t x) (sym e) a
-
--- and of an equal result
-pub as-left : {l : Plan} {sp : Spot} {mv : Doing} {r d m : ℕ} {s t : List ℕ} {x x′ : Moved} → x ≡ x′
-    → Applied l sp mv r d m s t x′ → Applied l sp mv r d m s t x
-as-left {l} {sp} {mv} {r} {d} {m} {s} {t} {x} {x′} e a = subst (λ (z : Moved). Applied l sp mv r d m s t z) (sym e) a
+pub as-move : {plan : Plan} {spot : Spot} {mv mv′ : Doing} {turn x : Turn} {s t : List ℕ} → mv ≡ mv′
+    → Applied plan spot mv′ turn s t x → Applied plan spot mv turn s t x
+as-move {plan} {spot} {turn = turn} {x = x} {s = s} {t = t} e a =
+    subst (λ (z : Doing). Applied plan spot z turn s t x) (sym e) a

@@ -1,5 +1,7 @@
 pub mod Moved
-pub mod Means
 pub mod Apply
+pub mod Means
+pub mod Marks
 pub mod Turns
+pub mod Reached
 pub mod Settling

@@ -1,159 +1,158 @@
 // One position is settled: its threads run until none is active, from the byte before it and the byte after it alone.
-ghost use mathlib.Core.Path.{_≡_};
-ghost use Prim.Native.Nat.{ℕ, _+_, _*_, _<_, _≤_};
+ghost use Prim.Native.Nat.{_+_, _<_};
 ghost use lib.ListN.{length};
+ghost use Rattle.meaning.specs.Limits.{positionLimit};
 ghost use Rattle.running_moves.specs.Chosen.{Ranged};
 ghost use Rattle.running_moves.specs.Ready.{Ready};
-ghost use Rattle.running_threads.specs.Words.{Below, fresh};
-ghost use Rattle.running_threads.specs.Held.{Laid, Tags};
-ghost use Rattle.running_settle.specs.Moved.{left, ended, Lane, Serves, Applied, Executed, Opens, SettledAs};
+ghost use Rattle.running_threads.specs.Held.{Laid};
+ghost use Rattle.running_settle.specs.Moved.{pushes, Serves, Room, Ample, Went, Applied};
+ghost use Rattle.running_settle.specs.Moved.{Turning, Executed, Opens, SettledAs};
 use running_moves::Move;
 use running_threads::Plan;
 use running_threads::Spot;
 
-// What a move leaves: whether the thread won, how many frames and how many queued threads.
-pub struct Moved {
-    pub accept: bool,
-    pub frames: usize,
-    pub queued: usize,
-}
-
-// What a thread's turn leaves, and how many rows it executed: one, or none if it was dropped.
-pub struct Turned {
-    pub accept: bool,
+// A thread's turn: where its registers are, the frames and the queued threads, how many rows were executed at this position,
+// and whether it won.
+pub struct Turn {
+    pub at: usize,
     pub frames: usize,
     pub queued: usize,
     pub ran: usize,
-}
-
-// What a position leaves: whether a thread won, how many threads are queued, and how many rows were executed.
-pub struct Settled {
     pub accept: bool,
-    pub queued: usize,
-    pub ran: usize,
 }
 
-fn leaves(accept: bool, frames: usize, queued: usize) -> Moved
-    ensures { λ x. ⌜ x ≡ left accept frames queued ⌝ }
+// The thread is queued with a key.
+fn eat(work: &mut [u32], plan: Plan, spot: Spot, mut turn: Turn, key: usize) -> Turn
+    requires { ⌜ Ample plan spot turn (now work) × Ranged (plan .rows) (plan .width) (Move.Eat key) ⌝ }
+    ensures { λ x. ⌜ Applied plan spot (Move.Eat key) turn (now (work .entry)) (now (work .exit)) x ⌝ }
 {
-    Moved {
-        accept: accept,
-        frames: frames,
-        queued: queued,
-    }
+    let queued = turn.queued;
+    running_threads::queue(work, plan, spot, turn.at, queued, key);
+    turn.queued = queued + 1;
+    turn
 }
 
-// A move of the thread whose registers are at r, with d frames and m queued threads.
-fn apply(work: &mut [u32], l: Plan, sp: Spot, mv: Move, r: usize, d: usize, m: usize) -> Moved
-    requires { ⌜ Laid l sp (length (now work)) × Lane l sp r × Ranged (l .rows) (l .width) mv ⌝ }
-    requires { ⌜ (d + l .width ≤ l .depth) × (m < l .keys) × Tags (now work) l d ⌝ }
-    ensures { λ x. ⌜ Applied l sp mv r d m (now (work .entry)) (now (work .exit)) x ⌝ }
+// It goes on with a key.
+fn go_on(work: &mut [u32], plan: Plan, mut turn: Turn, key: usize) -> Turn
+    requires { ⌜ Room plan turn (now work) × Ranged (plan .rows) (plan .width) (Move.On key) ⌝ }
+    ensures { λ x. ⌜ Went plan (pushes 0 (Move.On key)) turn (now (work .entry)) (now (work .exit)) x ⌝ }
+{
+    let frames = turn.frames;
+    running_threads::push(work, plan, frames, key);
+    turn.frames = frames + 1;
+    turn
+}
+
+// It goes two ways: the second choice waits below the first.
+fn go_both(work: &mut [u32], plan: Plan, mut turn: Turn, first: usize, second: usize) -> Turn
+    requires { ⌜ Room plan turn (now work) × Ranged (plan .rows) (plan .width) (Move.Both first second) ⌝ }
+    ensures { λ x. ⌜ Went plan (pushes 0 (Move.Both first second)) turn (now (work .entry)) (now (work .exit)) x ⌝ }
+{
+    let frames = turn.frames;
+    running_threads::push(work, plan, frames, second);
+    running_threads::push(work, plan, frames + 1, first);
+    turn.frames = frames + 2;
+    turn
+}
+
+// It writes a position to a register, and goes on with a key.
+fn write_on(
+    work: &mut [u32],
+    plan: Plan,
+    mut turn: Turn,
+    position: usize,
+    register: usize,
+    key: usize,
+) -> Turn
+    requires { ⌜ Room plan turn (now work) × Ranged (plan .rows) (plan .width) (Move.Write register key) ⌝ }
+    requires { ⌜ position < positionLimit ⌝ }
+    ensures { λ x. ⌜ Went plan (pushes position (Move.Write register key)) turn (now (work .entry)) (now (work .exit)) x ⌝ }
+{
+    let frames = turn.frames;
+    running_threads::write(work, plan, turn.at, frames, register, position as u32);
+    running_threads::push(work, plan, frames + 1, key);
+    turn.frames = frames + 2;
+    turn
+}
+
+// It makes the registers from one on to before another -1, and goes on with a key.
+fn wipe_on(work: &mut [u32], plan: Plan, mut turn: Turn, from: usize, to: usize, key: usize) -> Turn
+    requires { ⌜ Room plan turn (now work) × Ranged (plan .rows) (plan .width) (Move.Wipe from to key) ⌝ }
+    ensures { λ x. ⌜ Went plan (pushes 0 (Move.Wipe from to key)) turn (now (work .entry)) (now (work .exit)) x ⌝ }
+{
+    let top = running_threads::wipe(work, plan, turn.at, turn.frames, from, to);
+    running_threads::push(work, plan, top, key);
+    turn.frames = top + 1;
+    turn
+}
+
+// A move of the thread whose turn it is.
+fn apply(work: &mut [u32], plan: Plan, spot: Spot, mut turn: Turn, mv: Move) -> Turn
+    requires { ⌜ Ample plan spot turn (now work) × Ranged (plan .rows) (plan .width) mv ⌝ }
+    ensures { λ x. ⌜ Applied plan spot mv turn (now (work .entry)) (now (work .exit)) x ⌝ }
 {
     match mv {
-        Move::Win => leaves(true, d, m),
-        Move::Lose => leaves(false, d, m),
-        Move::Eat(key) => {
-            running_threads::queue(work, l, sp, key, r, m);
-            leaves(false, d, m + 1)
+        Move::Win => {
+            turn.accept = true;
+            turn
         }
-        Move::On(key) => {
-            running_threads::push(work, l, d, key);
-            leaves(false, d + 1, m)
-        }
-        Move::Both(first, second) => {
-            running_threads::push(work, l, d, second);
-            running_threads::push(work, l, d + 1, first);
-            leaves(false, d + 2, m)
-        }
-        Move::Write(register, key) => {
-            running_threads::write(work, l, r, d, register, sp.position as u32);
-            running_threads::push(work, l, d + 1, key);
-            leaves(false, d + 2, m)
-        }
-        Move::Wipe(from, to, key) => {
-            let e = running_threads::reset(work, l, r, d, from, to);
-            running_threads::push(work, l, e, key);
-            leaves(false, e + 1, m)
-        }
+        Move::Lose => turn,
+        Move::Eat(key) => eat(work, plan, spot, turn, key),
+        Move::On(key) => go_on(work, plan, turn, key),
+        Move::Both(first, second) => go_both(work, plan, turn, first, second),
+        Move::Write(register, key) => write_on(work, plan, turn, spot.position, register, key),
+        Move::Wipe(from, to, key) => wipe_on(work, plan, turn, from, to, key),
     }
 }
 
-// The turn of the thread of a key whose registers are at r: one step of the machine.
-fn execute(
-    code: &[u32],
-    work: &mut [u32],
-    l: Plan,
-    sp: Spot,
-    key: usize,
-    r: usize,
-    d: usize,
-    m: usize,
-) -> Turned
-    requires { ⌜ Ready (now code) × Serves (now code) l ⌝ }
-    requires { ⌜ Laid l sp (length (now work)) × Lane l sp r × (key < l .keys) × Tags (now work) l d ⌝ }
-    requires { ⌜ d + fresh (now work) (sp .position + 1) (l .keys) * l .width ≤ l .depth ⌝ }
-    requires { ⌜ m + fresh (now work) (sp .position + 1) (l .keys) ≤ l .keys ⌝ }
-    ensures { λ x. ⌜ Executed (now (code .entry)) l sp key r d m (now (work .entry)) (now (work .exit)) x ⌝ }
+// The turn of the thread of a key: one step of the machine. A key that is marked was executed at this position.
+fn execute(code: &[u32], work: &mut [u32], plan: Plan, spot: Spot, key: usize, turn: Turn) -> Turn
+    requires { ⌜ Ready (now code) × Serves (now code) plan × Turning plan spot key turn (now work) ⌝ }
+    ensures { λ x. ⌜ Executed (now (code .entry)) plan spot key turn (now (work .entry)) (now (work .exit)) x ⌝ }
 {
-    let mark = (sp.position + 1) as u32;
+    let position = spot.position;
+    let mark = (position + 1) as u32;
     if work[key] == mark {
-        return Turned {
-            accept: false,
-            frames: d,
-            queued: m,
-            ran: 0,
-        };
+        return turn;
     }
     work[key] = mark;
-    let mv = running_moves::move_of(code, sp.before, sp.after, key);
-    let x = apply(work, l, sp, mv, r, d, m);
-    Turned {
-        accept: x.accept,
-        frames: x.frames,
-        queued: x.queued,
-        ran: 1,
-    }
+    let mv = running_moves::move_of(code, spot.before, spot.after, key);
+    let mut done = apply(work, plan, spot, turn, mv);
+    let ran = done.ran;
+    done.ran = ran + 1;
+    done
 }
 
-fn ends(accept: bool, queued: usize, ran: usize) -> Settled
-    ensures { λ x. ⌜ x ≡ ended accept queued ran ⌝ }
+// The threads of a position run, the first with all that comes of it before the second. A winner's registers are kept. The last
+// turn says whether a thread won, how many are queued, and how many rows were executed.
+pub fn settle(code: &[u32], work: &mut [u32], plan: Plan, spot: Spot) -> Turn
+    requires { ⌜ Ready (now code) × Serves (now code) plan ⌝ }
+    requires { ⌜ Laid plan spot (length (now work)) × Opens plan spot (now work) ⌝ }
+    ensures { λ x. ⌜ SettledAs (now (code .entry)) plan spot (now (work .entry)) (now (work .exit)) x ⌝ }
 {
-    Settled {
-        accept: accept,
-        queued: queued,
-        ran: ran,
-    }
-}
-
-// The threads of a position run, the first with all that comes of it before the second. A winner's registers are kept.
-pub fn settle(code: &[u32], work: &mut [u32], l: Plan, sp: Spot) -> Settled
-    requires { ⌜ Ready (now code) × Serves (now code) l ⌝ }
-    requires { ⌜ Laid l sp (length (now work)) × Opens l sp (now work) ⌝ }
-    ensures { λ x. ⌜ SettledAs (now (code .entry)) l sp (now (work .entry)) (now (work .exit)) x ⌝ }
-{
-    let active = sp.active;
+    let active = spot.active;
     let mut key = running_threads::wide(work[active]);
-    let mut r = sp.registers;
-    let mut i: usize = 1;
-    let mut d: usize = 0;
-    let mut m: usize = 0;
-    let mut ran: usize = 0;
+    let mut index: usize = 1;
+    let mut turn = Turn {
+        at: spot.registers,
+        frames: 0,
+        queued: 0,
+        ran: 0,
+        accept: false,
+    };
     loop {
-        let x = execute(code, work, l, sp, key, r, d, m);
-        m = x.queued;
-        ran += x.ran;
-        if x.accept {
-            running_threads::copy(work, r, l.best, l.width);
-            return ends(true, m, ran);
+        turn = execute(code, work, plan, spot, key, turn);
+        if turn.accept {
+            running_threads::copy(work, turn.at, plan.best, plan.width);
+            return turn;
         }
-        let y = running_threads::take(work, l, sp, r, i, x.frames);
-        if y.go {
-            key = y.key;
-            r = y.registers;
-            i = y.index;
-            d = y.frames;
-            continue;
+        let next = running_threads::take(work, plan, spot, turn.at, index, turn.frames);
+        if !next.go {
+            return turn;
         }
-        return ends(false, m, ran);
+        key = next.key;
+        index = next.index;
+        turn.at = next.at;
+        turn.frames = next.frames;
     }
 }

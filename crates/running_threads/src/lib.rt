@@ -1,10 +1,10 @@
 // The threads of a run, in the words of its workspace (WORKSPACE.md has the layout).
 ghost use mathlib.Core.Path.{_≡_};
-ghost use mathlib.Core.Logic.{_⊎_};
-ghost use Prim.Native.Nat.{ℕ, _+_, _*_, _-_, _<_, _≤_};
-ghost use lib.ListN.{length, set, replicate};
-ghost use Rattle.running_threads.specs.Words.{Below, Only, Pasted, wordsAt};
-ghost use Rattle.running_threads.specs.Held.{Frame, Laid, Runs, Tags, Wrote, ResetTo, Queued, Popped, Took};
+ghost use Prim.Native.Nat.{_+_, _-_, _<_, _≤_};
+ghost use lib.ListN.{length, set};
+ghost use Rattle.running_moves.specs.Keys.{wordLimit};
+ghost use Rattle.running_threads.specs.Words.{Below, Clear, Pasted, Spread};
+ghost use Rattle.running_threads.specs.Held.{Frame, Laid, Runs, Tags, Stack, putBack, Wrote, Wiped, Queued, Popped, Took};
 
 // Stands for -1 in a register. A position is below 2 ^ 31.
 pub const NOWHERE: u32 = 4294967295;
@@ -38,122 +38,130 @@ pub struct Spot {
     pub stored: usize,
 }
 
-// The first active thread, if `go`: its key and where its registers are, with what is left: threads from index on, and frames.
-pub struct Taken {
-    pub go: bool,
-    pub key: usize,
-    pub registers: usize,
-    pub index: usize,
-    pub frames: usize,
-}
-
-// A frame that was taken off the stack.
+// A frame that was taken off the stack, if `go`.
 pub struct Off {
     pub go: bool,
     pub key: usize,
     pub frames: usize,
 }
 
+// The first active thread, if `go`: its key and where its registers are, with what is left: threads from index on, and frames.
+pub struct Taken {
+    pub go: bool,
+    pub key: usize,
+    pub at: usize,
+    pub index: usize,
+    pub frames: usize,
+}
+
 pub fn wide(x: u32) -> usize
-    ensures { λ r. ⌜ (r ≡ x) × (r < 4294967296) ⌝ }
+    ensures { λ r. ⌜ (r ≡ x) × (r < wordLimit) ⌝ }
 {
     x as usize
 }
 
-// A key on top of d frames: a thread with the registers as they are.
-pub fn push(work: &mut [u32], l: Plan, d: usize, key: usize)
-    requires { ⌜ (l .tags + d < length (now work)) × (key < 4294967296) ⌝ }
-    ensures { λ _. ⌜ now (work .exit) ≡ set (now (work .entry)) (l .tags + d) key ⌝ }
+// A key on top of the frames: a thread with the registers as they are.
+pub fn push(work: &mut [u32], plan: Plan, frames: usize, key: usize)
+    requires { ⌜ (plan .tags + frames < length (now work)) × (key < wordLimit) ⌝ }
+    ensures { λ _. ⌜ now (work .exit) ≡ set (now (work .entry)) (plan .tags + frames) key ⌝ }
 {
-    let tags = l.tags;
-    work[tags + d] = key as u32;
+    let tags = plan.tags;
+    work[tags + frames] = key as u32;
 }
 
-// Register s at r becomes v. A frame on top of d keeps what it was, for the threads below.
-pub fn write(work: &mut [u32], l: Plan, r: usize, d: usize, s: usize, v: u32)
-    requires { ⌜ Frame l r (length (now work)) × (d < l .depth) × (s < l .width) × Tags (now work) l d ⌝ }
-    ensures { λ _. ⌜ Wrote l r d s v (now (work .entry)) (now (work .exit)) ⌝ }
+// A register at `at` gets a value. A frame on top of the others keeps what it was, for the threads below.
+pub fn write(work: &mut [u32], plan: Plan, at: usize, frames: usize, register: usize, value: u32)
+    requires { ⌜ Stack plan at frames (now work) × (frames < plan .depth) × (register < plan .width) ⌝ }
+    ensures { λ _. ⌜ Wrote plan at frames register value (now (work .entry)) (now (work .exit)) ⌝ }
 {
-    let tags = l.tags;
-    let olds = l.olds;
-    let keys = l.keys;
-    work[tags + d] = (keys + s) as u32;
-    work[olds + d] = work[r + s];
-    work[r + s] = v;
+    let tags = plan.tags;
+    let olds = plan.olds;
+    let keys = plan.keys;
+    work[tags + frames] = (keys + register) as u32;
+    work[olds + frames] = work[at + register];
+    work[at + register] = value;
 }
 
 // The registers from one on to before another become -1.
-pub fn reset(work: &mut [u32], l: Plan, r: usize, d0: usize, from: usize, to: usize) -> usize
-    requires { ⌜ Frame l r (length (now work)) × (d0 + (to - from) ≤ l .depth) × (to ≤ l .width) × Tags (now work) l d0 ⌝ }
-    ensures { λ e. ⌜ ResetTo l r d0 from to (now (work .entry)) (now (work .exit)) e ⌝ }
+pub fn wipe(work: &mut [u32], plan: Plan, at: usize, frames: usize, from: usize, to: usize) -> usize
+    requires { ⌜ Stack plan at frames (now work) × (frames + (to - from) ≤ plan .depth) × (to ≤ plan .width) ⌝ }
+    ensures { λ top. ⌜ Wiped plan at frames from (to - from) (now (work .entry)) (now (work .exit)) top ⌝ }
 {
-    let mut s = from;
-    let mut d = d0;
-    while s < to {
-        write(work, l, r, d, s, NOWHERE);
-        s += 1;
-        d += 1;
+    let mut register = from;
+    let mut top = frames;
+    while register < to {
+        write(work, plan, at, top, register, NOWHERE);
+        register += 1;
+        top += 1;
     }
-    d
+    top
 }
 
-// The w words at `from` also stand at `to`.
-pub fn copy(work: &mut [u32], from: usize, to: usize, w: usize)
-    requires { ⌜ (from + w ≤ length (now work)) × (to + w ≤ length (now work)) × ((from + w ≤ to) ⊎ (to + w ≤ from)) ⌝ }
-    ensures { λ _. ⌜ Pasted from to w (now (work .entry)) (now (work .exit)) ⌝ }
+// The words at `from` also stand at `to`.
+pub fn copy(work: &mut [u32], from: usize, to: usize, count: usize)
+    requires { ⌜ (from + count ≤ length (now work)) × (to + count ≤ length (now work)) × Clear from count to count ⌝ }
+    ensures { λ _. ⌜ Pasted from to count (now (work .entry)) (now (work .exit)) ⌝ }
 {
     let mut i: usize = 0;
-    while i < w {
+    while i < count {
         work[to + i] = work[from + i];
         i += 1;
     }
 }
 
-// Each of the n words at `from` becomes v.
-pub fn fill(work: &mut [u32], from: usize, n: usize, v: u32)
-    requires { ⌜ from + n ≤ length (now work) ⌝ }
-    ensures { λ _. ⌜ (wordsAt (now (work .exit)) from n ≡ replicate n v) × Only from n (now (work .entry)) (now (work .exit)) ⌝ }
+// Each of the words at `from` becomes the value.
+pub fn spread(work: &mut [u32], from: usize, count: usize, value: u32)
+    requires { ⌜ from + count ≤ length (now work) ⌝ }
+    ensures { λ _. ⌜ Spread from count value (now (work .entry)) (now (work .exit)) ⌝ }
 {
     let mut i: usize = 0;
-    while i < n {
-        work[from + i] = v;
+    while i < count {
+        work[from + i] = value;
         i += 1;
     }
 }
 
-// The thread of a key and the registers at r is queued behind m others.
-pub fn queue(work: &mut [u32], l: Plan, sp: Spot, key: usize, r: usize, m: usize)
-    requires { ⌜ Laid l sp (length (now work)) × Frame l r (l .best) ⌝ }
-    requires { ⌜ ((r + l .width ≤ sp .stored) ⊎ (sp .stored + l .depth ≤ r)) × (m < l .keys) × (key < 4294967296) ⌝ }
-    ensures { λ _. ⌜ Queued l sp r m key (now (work .entry)) (now (work .exit)) ⌝ }
+// The thread of a key and the registers at `at` is queued behind the others.
+pub fn queue(work: &mut [u32], plan: Plan, spot: Spot, at: usize, queued: usize, key: usize)
+    requires { ⌜ Laid plan spot (length (now work)) × Frame plan at (plan .best) ⌝ }
+    requires { ⌜ Clear at (plan .width) (spot .stored) (plan .depth) × (queued < plan .keys) × (key < wordLimit) ⌝ }
+    ensures { λ _. ⌜ Queued plan spot at queued key (now (work .entry)) (now (work .exit)) ⌝ }
 {
-    let keys = sp.queue;
-    let stored = sp.stored;
-    let width = l.width;
-    work[keys + m] = key as u32;
-    copy(work, r, stored + m * width, width);
+    let keys = spot.queue;
+    let stored = spot.stored;
+    let width = plan.width;
+    work[keys + queued] = key as u32;
+    copy(work, at, stored + queued * width, width);
 }
 
-// The first thread on the stack, with the registers at r put back to what they were for it.
-pub fn pop(work: &mut [u32], l: Plan, r: usize, d0: usize) -> Off
-    requires { ⌜ Frame l r (length (now work)) × (d0 ≤ l .depth) × Tags (now work) l d0 ⌝ }
-    ensures { λ x. ⌜ Popped l r d0 (now (work .entry)) (now (work .exit)) (x .go) (x .key) (x .frames) ⌝ }
+// The register of a frame gets its old value back.
+fn put_back(work: &mut [u32], plan: Plan, at: usize, frame: usize, register: usize)
+    requires { ⌜ (plan .olds + frame < length (now work)) × (at + register < length (now work)) ⌝ }
+    ensures { λ _. ⌜ now (work .exit) ≡ putBack (now (work .entry)) plan at frame register ⌝ }
 {
-    let mut d = d0;
-    while 0 < d {
-        d -= 1;
-        let at = l.tags + d;
-        let tag = wide(work[at]);
-        if tag < l.keys {
+    let olds = plan.olds;
+    work[at + register] = work[olds + frame];
+}
+
+// The first thread on the stack, with the registers at `at` put back to what they were for it.
+pub fn pop(work: &mut [u32], plan: Plan, at: usize, frames: usize) -> Off
+    requires { ⌜ Stack plan at frames (now work) ⌝ }
+    ensures { λ x. ⌜ Popped plan at frames (now (work .entry)) (now (work .exit)) x ⌝ }
+{
+    let tags = plan.tags;
+    let keys = plan.keys;
+    let mut top = frames;
+    while 0 < top {
+        top -= 1;
+        let tag = wide(work[tags + top]);
+        if tag < keys {
             return Off {
                 go: true,
                 key: tag,
-                frames: d,
+                frames: top,
             };
         }
-        let register = r + (tag - l.keys);
-        let old = l.olds + d;
-        work[register] = work[old];
+        put_back(work, plan, at, top, tag - keys);
     }
     Off {
         go: false,
@@ -163,36 +171,46 @@ pub fn pop(work: &mut [u32], l: Plan, r: usize, d0: usize) -> Off
 }
 
 // The first active thread: the first on the stack, or else the next of this position.
-pub fn take(work: &mut [u32], l: Plan, sp: Spot, r: usize, i: usize, d: usize) -> Taken
-    requires { ⌜ Laid l sp (length (now work)) × Runs l sp r i × (d ≤ l .depth) ⌝ }
-    requires { ⌜ Tags (now work) l d × Below (now work) (sp .active) (sp .threads) (l .keys) ⌝ }
-    ensures { λ x. ⌜ Took l sp r i d (now (work .entry)) (now (work .exit)) x ⌝ }
+pub fn take(
+    work: &mut [u32],
+    plan: Plan,
+    spot: Spot,
+    at: usize,
+    index: usize,
+    frames: usize,
+) -> Taken
+    requires { ⌜ Laid plan spot (length (now work)) × Runs plan spot at index × (frames ≤ plan .depth) ⌝ }
+    requires { ⌜ Tags (now work) plan frames × Below (now work) (spot .active) (spot .threads) (plan .keys) ⌝ }
+    ensures { λ x. ⌜ Took plan spot at index frames (now (work .entry)) (now (work .exit)) x ⌝ }
 {
-    let top = pop(work, l, r, d);
+    let top = pop(work, plan, at, frames);
     if top.go {
         return Taken {
             go: true,
             key: top.key,
-            registers: r,
-            index: i,
+            at: at,
+            index: index,
             frames: top.frames,
         };
     }
-    let active = sp.active;
-    if i < sp.threads {
+    let active = spot.active;
+    let registers = spot.registers;
+    let threads = spot.threads;
+    let width = plan.width;
+    if index < threads {
         return Taken {
             go: true,
-            key: wide(work[active + i]),
-            registers: sp.registers + i * l.width,
-            index: i + 1,
+            key: wide(work[active + index]),
+            at: registers + index * width,
+            index: index + 1,
             frames: 0,
         };
     }
     Taken {
         go: false,
         key: 0,
-        registers: r,
-        index: i,
+        at: at,
+        index: index,
         frames: 0,
     }
 }

@@ -1,52 +1,33 @@
-use Prim.Native.Nat.{_+_, _*_}
-use native.Mathlib.Omega.{arith}
-use Rattle.running.specs.Positions.{depth-small}
 use borrow.Author.Needs.{needs}
+use Prim.Native.Nat.{_*_, _≤_}
+use native.Mathlib.Omega.{arith}
+use Rattle.meaning.specs.Limits.{rowLimit, groupLimit}
+use Rattle.meaning.specs.Text.{registersOf}
+use Rattle.running_moves.specs.Keys.{keysOf}
+use Rattle.running.specs.Positions.{depth-small}
 use Rattle.running.proofs.plan_of.Statement.{statement}
 use Rattle.running.proofs.plan_of.Tie as tie
-use Rattle.running.proofs.plan_of.Reads as reads
-use Rattle.running.proofs.plan_of.Lts as lts
 
-mul-keys : tie.Need-mul-keys
-mul-keys c = search needs
-
-mul-width : tie.Need-mul-width
-mul-width c = search needs
-
-add-width : tie.Need-add-width
-add-width c = search needs
+small : (c : tie.After-wide2)
+    → keysOf (c .before .before .wide .result) * registersOf (c .wide2 .result) ≤ keysOf rowLimit * registersOf groupLimit
+small c =
+    let rows = c .before .before in
+    depth-small (rows .before .before .before .pre) (rows .wide .ensures .0) (c .wide2 .ensures .0)
 
 mul-depth : tie.Need-mul-depth
-mul-depth c =
-    let a = (c) .args in
-    let s = depth-small (a .n * 2) (a .g * 2 + 2) (omega arith) (omega arith) in
-    omega arith
-
-mul-tags : tie.Need-mul-tags
-mul-tags c = search needs
+mul-depth c = omega (arith, small c)
 
 add-olds : tie.Need-add-olds
-add-olds c =
-    let a = (c) .args in
-    let s = depth-small (a .n * 2) (a .g * 2 + 2) (omega arith) (omega arith) in
-    omega arith
+add-olds c = omega (arith, small c)
 
-mul-t8 : tie.Need-mul-t8
-mul-t8 c =
-    let a = (c) .args in
-    let s = depth-small (a .n * 2) (a .g * 2 + 2) (omega arith) (omega arith) in
-    omega arith
+mul-best : tie.Need-mul-t12
+mul-best c = omega (arith, small c)
 
-add-t9 : tie.Need-add-t9
-add-t9 c =
-    let a = (c) .args in
-    let s = depth-small (a .n * 2) (a .g * 2 + 2) (omega arith) (omega arith) in
-    omega arith
-
-returns : tie.Need-returns
-returns c = search needs
+add-best : tie.Need-add-t13
+add-best c = omega (arith, small c)
 
 pub plan-of-spec : {M : Type 1} → statement M
 plan-of-spec =
     tie.close
-    (tie.spec mul-keys mul-width add-width mul-depth mul-tags add-olds mul-t8 add-t9 returns)
+    (tie.spec (λ c. search needs) (λ c κs. search needs) (λ c. search needs) (λ c κs. search needs) (λ c. search needs)
+    (λ c. search needs) (λ c. search needs) mul-depth (λ c. search needs) add-olds mul-best add-best (λ c. search needs))

@@ -1,40 +1,28 @@
-use borrow.Author.Needs.{needs}
 use native.Mathlib.Omega.{arith}
-use Rattle.running_moves.proofs.RowKinds.{at-begin, at-end, at-edge, off-edge}
+use mathlib.Core.Path.{sym}
+use Rattle.meaning.specs.Bytes.{asserts}
+use Rattle.running_moves.proofs.Laws.{no-byte, no-assertion}
 use Rattle.running_moves.proofs.holds.Statement.{statement}
 use Rattle.running_moves.proofs.holds.Tie as tie
-use Rattle.running_moves.proofs.holds.Reads as reads
-use Rattle.running_moves.proofs.holds.Lts as lts
-use Rattle.running_moves.proofs.is_word.Reads as is-word-reads
 
-is-word-requires : tie.Need-is-word-requires
-is-word-requires c κs = search needs
+at-start : tie.Need-returns
+unfolding asserts
+at-start c = rw (c .match .keys1) (no-byte (c .before .args .before))
 
-is-word-requires-2 : tie.Need-is-word-requires-2
-is-word-requires-2 c κs = search needs
+at-end : tie.Need-returns-2
+unfolding asserts
+at-end c = rw (c .match .keys2) (no-byte (c .before .args .after))
 
-returns : tie.Need-returns
-returns c =
-    let a = (c .before .before .before) .args in
-    at-begin (a .a) (a .before) (a .after) ((c .match) .keys1)
+at-edge : tie.Need-returns-3
+unfolding asserts
+at-edge c = rw (c .before .match .keys3) (c .at-edge .ensures)
 
-returns-2 : tie.Need-returns-2
-returns-2 c =
-    let a = (c .before .before .before) .args in
-    at-end (a .a) (a .before) (a .after) ((c .match) .keys2)
+off-edge : tie.Need-returns-4
+unfolding asserts
+off-edge c = rw (c .before .match .keys4, c .at-edge2 .ensures)
 
-returns-3 : tie.Need-returns-3
-returns-3 c =
-    let a = (c .before .before .before) .args in
-    at-edge (a .a) (a .before) (a .after) ((c .before .before .is-word) .result) ((c .before .is-word2) .result)
-    ((c .before .before .is-word) .ensures) ((c .before .is-word2) .ensures) ((c .match) .keys3)
-
-returns-4 : tie.Need-returns-4
-returns-4 c =
-    let a = (c .before .before .before) .args in
-    off-edge (a .a) (a .before) (a .after) ((c .before .before .is-word) .result) ((c .before .is-word2) .result)
-    ((c .before .before .is-word) .ensures) ((c .before .is-word2) .ensures) (omega arith)
+no-other : tie.Need-returns-5
+no-other c = sym (no-assertion (c .before .args .assertion) _ _ (omega arith))
 
 pub holds-spec : {M : Type 1} → statement M
-holds-spec =
-    tie.close (tie.spec is-word-requires is-word-requires-2 returns returns-2 returns-3 returns-4)
+holds-spec = tie.close (tie.spec (λ c κs. tt) (λ c κs. tt) at-start at-end at-edge off-edge no-other)
