@@ -13,6 +13,7 @@ use Rattle.meaning.specs.Bytes.{Bytes}
 use Rattle.meaning.specs.Node.{Node}
 use Rattle.machine.specs.Steps.{Machine, best, count}
 use Rattle.machine.specs.Words.{rowsSaid, groupsSaid}
+use Rattle.machine.specs.Allowed.{within}
 use Rattle.machine.specs.Replies.{Reply.refused, Lent, lentBy, turnedAway, refusal, runOf, answerOf, replyTo, reply, spans}
 use Rattle.machine.specs.Replies.{registersFrom, registersAfter}
 use Rattle.reading_items.specs.Reading.{Reading.pattern, reading}
@@ -22,7 +23,7 @@ use Rattle.compiler.specs.declared.Compilation.the-variants.{Rows}
 use Rattle.engine.specs.Answers.{replyOf, executed, Answered}
 use Rattle.engine.specs.declared.Answer.{Answer}
 use Rattle.engine.specs.declared.Answer.the-variants.{Found, Missing, Refused}
-use Rattle.millkettle.specs.Laws.{Way, rowOf, standardBy, finds, conditions, within}
+use Rattle.millkettle.specs.Laws.{Way, rowOf, standardBy, finds, conditions}
 
 -- Demand 1: for any code, text, start and buffers, at most two rows are executed for each row and position,
 module _ {code text : List ℕ} {start row : ℕ} {registers registers′ : List ℤ} {workspace workspace′ : List ℕ} {r : Answer}
@@ -94,7 +95,7 @@ answers-standard way {code} {text} {start} {registers} {workspace = workspace} {
     }
 
 -- So do the calls on what was compiled, plain or tidied.
-pub record Answers (tidying : Bool) (way : Way) (s table text : List ℕ) (start n g : ℕ) (registers registers′ : List ℤ)
+pub record SomeStandard (tidying : Bool) (way : Way) (s table text : List ℕ) (start n g : ℕ) (registers registers′ : List ℤ)
     (workspace : List ℕ) (answer : Answer) : Type 0 where
   pub node : Node
   pub is-read : reading s (length table) ≡ pattern node g
@@ -104,7 +105,7 @@ pub compiled-standard : (tidying : Bool) (way : Way) {s text : List ℕ} {start 
     {registers registers′ : List ℤ} {workspace workspace′ : List ℕ} {n g : ℕ} {answer : Answer} → Bytes s → Bytes text
     → Compiles tidying s table table′ code code′ (Rows n g)
     → Answered code′ text start (rowOf way) registers workspace answer registers′ workspace′
-    → Answers tidying way s table text start n g registers registers′ workspace answer
+    → SomeStandard tidying way s table text start n g registers registers′ workspace answer
 compiled-standard tidying way {s} {table = table} {code = code} {n = n} {g = g} bs bt h a =
     let m : Compiled tidying s table code n g = compiled tidying s table code n g bs (sym (h .answers)) in
     record {

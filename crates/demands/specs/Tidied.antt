@@ -16,6 +16,7 @@ use Rattle.meaning.specs.Text.{Regs, registersOf}
 use Rattle.meaning.specs.Bytes.{Bytes, asserts, textOf}
 use Rattle.meaning.specs.Node.{Node}
 use Rattle.meaning.specs.Numbering.{Numbers}
+use Rattle.machine.specs.Allowed.{within}
 use Rattle.machine.specs.Replies.{Reply, Reply.found, Reply.missing, Reply.refused, Lent, lentBy, lentGrounds, turnedAway}
 use Rattle.machine.specs.Replies.{answerOf, spans}
 use Rattle.tidying_laws.specs.Alike.{Alike}
@@ -36,7 +37,7 @@ use Rattle.compiler.specs.declared.Compilation.{Compilation}
 use Rattle.compiler.specs.declared.Compilation.the-variants.{Rows}
 use Rattle.engine.specs.Answers.{replyOf, executed, Answered}
 use Rattle.engine.specs.declared.Answer.{Answer}
-use Rattle.millkettle.specs.Laws.{Way, Way.matching, Way.searching, rowOf, standardBy, within}
+use Rattle.millkettle.specs.Laws.{Way, Way.matching, Way.searching, rowOf, standardBy}
 use Rattle.demands.specs.Runs.{answers-standard}
 
 -- A pattern that was compiled tidied: what it was read as, its code, and what the table holds.

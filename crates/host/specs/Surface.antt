@@ -12,9 +12,9 @@ use Rattle.machine.specs.Steps.{Machine, best, count}
 use Rattle.machine.specs.Words.{rowsSaid, groupsSaid, codePasses}
 use Rattle.machine.specs.Replies.{Reply, valuesOf, Lent, lend, lentGrounds, runOf, replyTo, registersFrom}
 use Rattle.reading_items.specs.Reading.{reading}
-use Rattle.compiler.specs.Compiling.{answerBy, codeLeft}
-use Rattle.compiler.specs.declared.Compilation.{Compilation}
-use Rattle.compiler.specs.declared.Compilation.the-variants.{Rows, Refused}
+use Rattle.millkettle.specs.Calls.Compiling.{answerBy, codeLeft}
+use Rattle.millkettle.specs.Calls.{Compilation}
+use Rattle.millkettle.specs.Calls.Compilation.{Rows, Refused}
 use Rattle.wire.specs.Wire.{wordsOf, intsOf, bytesOfWords, bytesOfInts, written}
 use Rattle.meaning.specs.Limits.{tableSize, codeSize, workspaceSize}
 use Rattle.host.specs.declared.Compiled.{Compiled}

@@ -1,9 +1,9 @@
 // An answer: found or none with the count of rows executed, or the refusal; then four registers, which all held 7 before.
 ghost use mathlib.Core.Path.{_≡_};
 ghost use lib.ListN.{length};
-use compiler::Compilation;
-use engine::Answer;
 use libc::STDOUT_FILENO;
+use millkettle::Answer;
+use millkettle::Compilation;
 use millkettle::Finding;
 
 pub fn say(bytes: &[u8]) {
