@@ -33,8 +33,7 @@ use Rattle.wire.specs.Words.{words-length}
 use Rattle.wire.specs.Ints.{ints-length}
 use Rattle.wire.specs.Written.{ints-over, ints-same}
 use Rattle.meaning.specs.Limits.{tableSize, codeSize, workspaceSize}
-use Rattle.host.specs.Sizes.{registerCount}
-use Rattle.host.specs.Surface.{compiledNumbers, ranNumbers, lentWords, codeLent, allWords, allInts}
+use Rattle.host.specs.Surface.{registerCount, compiledNumbers, ranNumbers, lentWords, codeLent, allWords, allInts}
 use Rattle.host.specs.Surface.{lentTo, byteGrounds, replyLent, registersLent}
 use Rattle.host.specs.Surface.{CompilesBytes, RunsBytes}
 use Rattle.host.specs.declared.Compiled.{Compiled}

@@ -6,6 +6,8 @@ use Prim.Native.Nat.{ℕ, _/_, min}
 use lib.Dec.{ltb}
 use lib.IntN.{ℤ}
 use lib.ListN.{length}
+use Rattle.meaning.specs.Text.{registersOf}
+use Rattle.meaning.specs.Limits.{groupLimit, tableSize, codeSize, workspaceSize}
 use Rattle.meaning.specs.Refusals as No
 use Rattle.meaning.specs.Grounds.{Ground, ground, firstOf}
 use Rattle.machine.specs.Steps.{Machine, best, count}
@@ -16,7 +18,6 @@ use Rattle.millkettle.specs.Calls.Compiling.{answerBy, codeLeft}
 use Rattle.millkettle.specs.Calls.{Compilation}
 use Rattle.millkettle.specs.Calls.Compilation.{Rows, Refused}
 use Rattle.wire.specs.Wire.{wordsOf, intsOf, bytesOfWords, bytesOfInts, written}
-use Rattle.meaning.specs.Limits.{tableSize, codeSize, workspaceSize}
 use Rattle.host.specs.declared.Compiled.{Compiled}
 use Rattle.host.specs.declared.Ran.{Ran}
 
@@ -33,6 +34,10 @@ ranNumbers r = record {
   place = valuesOf r .place;
   count = valuesOf r .count;
 }
+
+-- The registers inside: as many as any run writes.
+abbrev pub registerCount : ℕ
+registerCount = registersOf groupLimit
 
 -- The words that bytes lend: a part word counts as not lent.
 abbrev pub lentWords : ℕ → ℕ

@@ -6,8 +6,7 @@ use lib.IntN.{ℤ, pos}
 use lib.ListN.{length, length-replicate}
 use Rattle.reading_atoms.specs.Places.{bytes-of}
 use Rattle.meaning.specs.Limits.{codeSize, workspaceSize}
-use Rattle.host.specs.Sizes.{registerCount}
-use Rattle.host.specs.Surface.{lentWords}
+use Rattle.host.specs.Surface.{registerCount, lentWords}
 use Rattle.host.specs.Laws.{first-of, turns-away, runs-bytes}
 use borrow.Author.Needs.{needs}
 use Rattle.host.proofs.run_lent.Statement.{statement}
