@@ -17,7 +17,7 @@ use Rattle.machine.specs.Replies.{Reply, Reply.found, Reply.missing, Reply.refu
 use Rattle.machine.specs.Replies.{runOf, answerOf, replyTo, reply, spans, registersFrom, registersAfter}
 use Rattle.reading_items.specs.Reading.{Reading.pattern, reading}
 use Rattle.compiler.specs.Compiling.{shaped, Compiles}
-use Rattle.compiler.specs.Compiled.{Coded, Compiled, compiled}
+use Rattle.millkettle.specs.Compiled.{Coded, Compiled, compiled}
 use Rattle.compiler.specs.declared.Compilation.the-variants.{Rows}
 use Rattle.engine.specs.Answers.{replyOf, executed, Answered}
 use Rattle.engine.specs.declared.Answer.{Answer}

@@ -32,7 +32,7 @@ use Rattle.reading_items.specs.Reading.{Reading.pattern, reading, tableBy}
 use Rattle.code_rows.specs.Emission.{rowsNeeded}
 use Rattle.compiler.specs.Compiling.{plain, tidied, programGrounds, unwritten, answerFor, tableFor, answerBy, tableLeft}
 use Rattle.compiler.specs.Compiling.{compilation, tableAt, codeAt, Compiles}
-use Rattle.compiler.specs.Compiled.{Coded, Compiled, compiled}
+use Rattle.millkettle.specs.Compiled.{Coded, Compiled, compiled}
 use Rattle.compiler.specs.declared.Compilation.{Compilation}
 use Rattle.compiler.specs.declared.Compilation.the-variants.{Rows}
 use Rattle.engine.specs.Answers.{replyOf, executed, Answered}

@@ -16,7 +16,7 @@ use Rattle.machine.specs.Replies.{registersFrom, registersAfter}
 use Rattle.reading_items.specs.Reading.{Reading, Reading.pattern, Reading.refused, reading}
 use Rattle.code_rows.specs.Emission.{rowsNeeded}
 use Rattle.compiler.specs.Compiling.{plain, programGrounds, unwritten, answerFor, answerBy, tableAt, codeAt, Compiles}
-use Rattle.compiler.specs.Compiled.{Compiled, compiled}
+use Rattle.millkettle.specs.Compiled.{Compiled, compiled}
 use Rattle.compiler.specs.declared.Compilation.{Compilation}
 use Rattle.compiler.specs.declared.Compilation.the-variants.{Rows, Refused as Turned}
 use Rattle.engine.specs.Answers.{executed, Answered}

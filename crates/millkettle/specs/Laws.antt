@@ -13,7 +13,7 @@ use Rattle.machine.specs.Layout.{programOf}
 use Rattle.machine.specs.Words.{decode}
 use Rattle.machine.specs.Answers.{matched, searched}
 use Rattle.machine.specs.Replies.{Lent, refusal, turnedAway}
-use Rattle.compiler.specs.Compiled.{Coded}
+use Rattle.millkettle.specs.Compiled.{Coded}
 
 -- A way to run: at the start, or searching from it on; the row that it begins at, and what the standard's algorithm finds.
 pub data Way : Type 0 where
