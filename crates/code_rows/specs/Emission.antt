@@ -1,22 +1,19 @@
 -- What `emit` answers and leaves in the code: refusals 15 and 16, or the program. Every case is by the number of rows alone.
-use mathlib.Core.Path.{_≡_, refl, sym, ap, _∙_}
-use mathlib.Core.Bool.{Bool, true, false, cond}
+use mathlib.Core.Path.{_≡_, ap}
+use mathlib.Core.Bool.{cond}
 use mathlib.Core.List.{List, _++_}
-use Prim.Native.Nat.{ℕ, suc, _+_, _*_, _≤_, _<_, min}
+use Prim.Native.Nat.{ℕ, _+_, _≤_, _<_}
 use native.Mathlib.Omega.{arith}
 use lib.Dec.{ltb}
 use lib.ListN.{length, drop}
-use borrow.Author.Tests.{lt-ltb, le-ltb, ltb-false}
-use Rattle.meaning.specs.Limits.{groupLimit, rowLimit, leastRows, codeWords}
-use Rattle.meaning.specs.Node.{Node, Proper}
-use Rattle.meaning.specs.Numbering.{Numbers}
+use borrow.Author.Tests.{lt-ltb, le-ltb}
+use Rattle.meaning.specs.Limits.{rowLimit, leastRows, codeWords}
+use Rattle.meaning.specs.Node.{Node}
 use Rattle.machine.specs.Layout.{sizeOf, programOf}
-use Rattle.machine.specs.Words.{codeOf, codePasses}
-use Rattle.machine.specs.Coded.{compiled-code-passes}
-use Rattle.table.specs.Table.{sizeCap}
+use Rattle.machine.specs.Words.{codeOf}
 use Rattle.table.specs.Table.{wordOf, sizeWord}
 use Rattle.table.specs.Roots.{root-size}
-use Rattle.code_rows.specs.Program.{Tabled, tabled-part, Roomy, Compiling, Compiles}
+use Rattle.code_rows.specs.Program.{Tabled, tabled-part, Compiling, Compiles}
 use Rattle.code_rows.specs.declared.Emission.{Emission}
 use Rattle.code_rows.specs.declared.Emission.the-variants.{Rows, TooMany, TooShort}
 
@@ -83,19 +80,3 @@ module _ {table : List ℕ} {top w : ℕ} (e : w ≡ wordOf table top sizeWord) 
           rw (le-ltb rowLimit (rowsNeeded r) (omega arith), le-ltb (length code) (codeWords (rowsNeeded r)) (omega arith))
           (c .by r t (record { short = omega arith; long = omega arith }));
     }
-
--- What `emit` writes passes the check, whatever stands behind it, and has the rows that it answers.
-pub emitted-passes : (g : ℕ) (r : Node) (code : List ℕ) (n : ℕ) → Numbers 1 r (suc g) → Proper r → g ≤ groupLimit
-    → emission r (length code) ≡ Rows n → (codePasses (codeEmitted g r code) ≡ true) × (n ≡ rowsNeeded r)
-emitted-passes g r code n numbers proper few e =
-    go (ltb rowLimit (rowsNeeded r)) refl (ltb (length code) (codeWords (rowsNeeded r))) refl
-  where
-    go : (many : Bool) → ltb rowLimit (rowsNeeded r) ≡ many
-        → (short : Bool) → ltb (length code) (codeWords (rowsNeeded r)) ≡ short
-        → (codePasses (codeEmitted g r code) ≡ true) × (n ≡ rowsNeeded r)
-    go true m short s = let no : TooMany ≡ Rows n = rw m at e in let z : _≡_ {A = ℕ} 0 1 = cc in absurd (omega arith)
-    go false m true s = let no : TooShort ≡ Rows n = rw (m, s) at e in let z : _≡_ {A = ℕ} 0 1 = cc in absurd (omega arith)
-    go false m false s =
-        let same : Rows (rowsNeeded r) ≡ Rows n = rw (m, s) at e in
-        let rest : List ℕ = drop (codeWords (rowsNeeded r)) code in
-        (rw (m, s) (compiled-code-passes g r numbers proper few (ltb-false rowLimit (rowsNeeded r) m) rest), cc)

@@ -1,4 +1,4 @@
--- A pattern that was read stands in its table, which holds nothing else and has room for what it is tidied to.
+-- A pattern that was read is stored in its table.
 use mathlib.Core.Path.{_≡_, refl, sym, ap, subst₂, _∙_}
 use mathlib.Core.Bool.{Bool, true, false}
 use mathlib.Core.Option.{none, some}
@@ -29,7 +29,7 @@ use Rattle.reading_grammar.specs.Grammar.{Derives}
 use Rattle.reading_grammar.specs.Sound.{sound}
 use Rattle.tidying.specs.Held.{tableOf}
 use Rattle.compiler.specs.Charged.{derived-charge}
-use Rattle.compiler.specs.Programs.{Holds, SomeHolds}
+use Rattle.compiler.specs.Programs.{Stored, SomeStored}
 
 -- What is read has passed check 2.
 passed : (t : Bool) (n p : ℕ) (x : Reading) (r : Node) (g : ℕ) → choose t (λ _. refused n p) (λ _. x) ≡ pattern r g
@@ -43,7 +43,8 @@ words-enough s table r g e =
     let short : Bool = ltb table (tableWords (length s)) in
     let third : Reading = choose (ltb (firstHigh s) (length s)) (λ _. refused No.highByte (firstHigh s))
     (λ _. whole s (alternativesAt depthLimit s 0 0)) in
-    let first = passed (ltb patternLimit (length s)) No.longPattern 0 (choose short (λ _. refused No.smallTable 0) (λ _. third)) r g e in
+    let second : Reading = choose short (λ _. refused No.smallTable 0) (λ _. third) in
+    let first = passed (ltb patternLimit (length s)) No.longPattern 0 second r g e in
     ltb-false table (tableWords (length s)) (passed short No.smallTable 0 third r g (first .1) .0)
 
 -- The records of a pattern stand first in its table.
@@ -56,9 +57,9 @@ stands r words proper =
     }
 
 -- What was read is in the table that the reading leaves.
-read-holds : {s table′ : List ℕ} (table : List ℕ) (r : Node) (g : ℕ) → Bytes s → reading s (length table) ≡ pattern r g
-    → length table′ ≡ length table → table′ ≡ tableBy (pattern r g) table → Holds table′ (recordCount r) r (suc g) (length s)
-read-holds {s} table r g bytes e same left =
+read-stored : {s table′ : List ℕ} (table : List ℕ) (r : Node) (g : ℕ) → Bytes s → reading s (length table) ≡ pattern r g
+    → length table′ ≡ length table → table′ ≡ tableBy (pattern r g) table → Stored table′ (recordCount r) r (suc g) (length s)
+read-stored {s} table r g bytes e same left =
     let known : Read s (atom-laws bytes) r g = what-is-read bytes (length table) r g e in
     let derives : Derives s r g = rw e at (sound s (length table)) in
     let proper : Proper r = fair-proper r depthLimit (known .fair) in
@@ -75,11 +76,11 @@ read-holds {s} table r g bytes e same left =
       whole = left ∙ ap (tableOf r) (sym same);
     }
 
--- A pattern that was read, and the table that holds it.
+-- A pattern that was read, and the table that it is stored in.
 pub record Given (s table table′ : List ℕ) (top g : ℕ) : Type 0 where
   pub node : Node
   pub is-read : reading s (length table) ≡ pattern node g
-  pub holds : Holds table′ top node (suc g) (length s)
+  pub stored : Stored table′ top node (suc g) (length s)
 
 pub given : {s table table′ : List ℕ} {answer : Answer} {top g : ℕ} → Bytes s → length table′ ≡ length table
     → Reads s table table′ answer → answer ≡ Pattern top g → Given s table table′ top g
@@ -94,11 +95,11 @@ given {s} {table} {table′} {answer} {top} {g} bytes same r f = go (reading s (
         subst₂ (Given s table table′) u v (record {
           node = q;
           is-read = e;
-          holds = read-holds table q h bytes e same (r .table-is ∙ ap (λ x. tableBy x table) e);
+          stored = read-stored table q h bytes e same (r .table-is ∙ ap (λ x. tableBy x table) e);
         })
     go (refused n p) e =
         let no : Pattern top g ≡ Turned n p = sym f ∙ r .answer-is ∙ ap answerOf e in
         absurd (let z : _≡_ {A = ℕ} 0 1 = cc in omega arith)
 
-pub given-some : {s table table′ : List ℕ} {top g : ℕ} → Given s table table′ top g → SomeHolds table′ top
-given-some {s} {g = g} k = record { node = k .node; groups = suc g; bytes = length s; holds = k .holds }
+pub given-some : {s table table′ : List ℕ} {top g : ℕ} → Given s table table′ top g → SomeStored table′ top
+given-some {s} {g = g} k = record { node = k .node; groups = suc g; bytes = length s; stored = k .stored }

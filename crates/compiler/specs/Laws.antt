@@ -29,7 +29,7 @@ use Rattle.code_rows.specs.declared.Emission.the-variants.{Rows as Emitted, Too
 use Rattle.tidying.specs.Held.{Held, SomeHeld, tableOf, Tidies}
 use Rattle.compiler.specs.Compiling.{shaped, unwritten, tableFor, codeFor, answerBy, tableLeft, codeLeft}
 use Rattle.compiler.specs.Compiling.{Compiles}
-use Rattle.compiler.specs.Programs.{Holds, SomeHolds, TellsRows, Shapes, Cleared, Programs}
+use Rattle.compiler.specs.Programs.{Stored, SomeStored, TellsRows, Shapes, Cleared, Programs}
 use Rattle.compiler.specs.Given.{Given}
 use Rattle.compiler.specs.declared.Compilation.{Compilation}
 use Rattle.compiler.specs.declared.Compilation.the-variants.{Rows, Refused}
@@ -40,10 +40,10 @@ use Rattle.compiler.specs.declared.Compilation.the-variants.{Rows, Refus
 held-tabled : {table : List ℕ} {n g p : ℕ} {r : Node} → Held table n r g p → Tabled table n r
 held-tabled h = record { stands = h .stands; proper = h .proper }
 
--- A pattern that a table holds has a record, whose size is held just above the limit of rows.
-pub holds-some : {table : List ℕ} {n : ℕ} → SomeHolds table n → (0 < n) × (recordWords * n ≤ length table)
-holds-some s =
-    let whole = held-tabled (s .holds .held) in (
+-- A stored pattern has a record, whose size is held just above the limit of rows.
+pub stored-some : {table : List ℕ} {n : ℕ} → SomeStored table n → (0 < n) × (recordWords * n ≤ length table)
+stored-some s =
+    let whole = held-tabled (s .stored .held) in (
       omega (arith, some-records whole, few-records whole),
       whole .stands .room,
     )
@@ -52,8 +52,8 @@ held-size : {table : List ℕ} {n g p : ℕ} {r : Node} (d : Derived) → Held t
     → d .size ≡ min (sizeOf r) sizeCap
 held-size d h e = ap (λ (x : Derived). x .size) (e ∙ root-derived (held-tabled h))
 
-pub size-small : {table : List ℕ} {n : ℕ} (d : Derived) → SomeHolds table n → d ≡ rootOf table n → d .size ≤ sizeCap
-size-small d s e = omega (arith, held-size d (s .holds .held) e)
+pub size-small : {table : List ℕ} {n : ℕ} (d : Derived) → SomeStored table n → d ≡ rootOf table n → d .size ≤ sizeCap
+size-small d s e = omega (arith, held-size d (s .stored .held) e)
 
 -- So it tells whether there are too many rows.
 pub tells-rows : {table : List ℕ} {n : ℕ} (d : Derived) → d ≡ rootOf table n
@@ -81,8 +81,8 @@ is-shaped true r g n p =
 is-shaped false r g n p = record { numbers = n; proper = p; fewer = omega arith }
 
 -- It stands in the table: tidied there, or as it stood.
-pub held-some : {table : List ℕ} {n : ℕ} → SomeHolds table n → SomeHeld table n
-held-some s = record { node = s .node; groups = s .groups; bytes = s .bytes; held = s .holds .held }
+pub held-some : {table : List ℕ} {n : ℕ} → SomeStored table n → SomeHeld table n
+held-some s = record { node = s .node; groups = s .groups; bytes = s .bytes; held = s .stored .held }
 
 pub shapes-tidied : {tidying : Bool} {table table′ : List ℕ} {n n′ : ℕ} → tidying ≡ true → Tidies table table′ n n′
     → Shapes tidying table table′ n n′
@@ -149,29 +149,29 @@ module _ {tidying : Bool} {table : List ℕ} {n : ℕ} where
   -- One that is shaped, and its program written or not.
   module _ {over : Bool} {table₁ : List ℕ} {left : ℕ} (t : TellsRows over table n) (few : over ≡ false)
       (same : length table₁ ≡ length table) (s : Shapes tidying table table₁ n left) where
-    pub shaped-tabled : SomeHolds table n → SomeTabled table₁ left
+    pub shaped-tabled : SomeStored table n → SomeTabled table₁ left
     shaped-tabled k = record {
       node = shaped tidying (k .node);
-      tabled = held-tabled (s .by (k .node) (k .groups) (k .bytes) (k .holds) same .held);
+      tabled = held-tabled (s .by (k .node) (k .groups) (k .bytes) (k .stored) same .held);
     }
 
     module _ {g : ℕ} {code code′ : List ℕ} {emitted : Emission} (em : Emits table₁ left g code code′ emitted) where
-      module _ (r : Node) (h p : ℕ) (held : Holds table n r h p) where
+      module _ (r : Node) (h p : ℕ) (held : Stored table n r h p) where
         few-rows : ltb rowLimit (rowsNeeded r) ≡ false
         few-rows = sym (t .by r h p held) ∙ few
 
         fewer : rowsNeeded (shaped tidying r) ≤ rowsNeeded r
         fewer = is-shaped tidying r h (held .held .numbers) (held .held .proper) .fewer
 
-        now-holds : Holds table₁ left (shaped tidying r) h p
-        now-holds = s .by r h p held same
+        now-stored : Stored table₁ left (shaped tidying r) h p
+        now-stored = s .by r h p held same
 
         outcome : (x : Emission) → emitted ≡ x → Outcome tidying r g code few-rows fewer x
         outcome x e = emits tidying r g code few-rows fewer x
-            (sym (em .answers (shaped tidying r) (held-tabled (now-holds .held))) ∙ e)
+            (sym (em .answers (shaped tidying r) (held-tabled (now-stored .held))) ∙ e)
 
         code-left : code′ ≡ codeFor (unwritten tidying r (length code)) (shaped tidying r) g code
-        code-left = em .leaves (shaped tidying r) (held-tabled (now-holds .held)) ∙ leaves tidying r g code few-rows fewer
+        code-left = em .leaves (shaped tidying r) (held-tabled (now-stored .held)) ∙ leaves tidying r g code few-rows fewer
 
       pub written : {m : ℕ} → emitted ≡ Emitted m → Programs tidying table table₁ n g code code′ (Rows m g)
       written {m} e = record {
@@ -179,7 +179,7 @@ module _ {tidying : Bool} {table : List ℕ} {n : ℕ} where
             let (fine, rows) = outcome r h p held (Emitted m) e in
             record {
               answers = rw fine (ap (λ k. Rows k g) rows);
-              table-is = rw fine (now-holds r h p held .whole ∙ ap (tableOf (shaped tidying r)) same);
+              table-is = rw fine (now-stored r h p held .whole ∙ ap (tableOf (shaped tidying r)) same);
               code-is = code-left r h p held;
             };
       }
@@ -235,7 +235,7 @@ module _ {tidying : Bool} {s table table′ : List ℕ} where
   programmed {table₁} {code} {g = g} l k done =
       let r : Node = k .node in
       let back : pattern r g ≡ reading s (length table) = sym (k .is-read) in
-      let made = done .by r (suc g) (length s) (k .holds) in
+      let made = done .by r (suc g) (length s) (k .stored) in
       record {
         answers = made .answers ∙ ap (λ y. answerBy tidying y (length code)) back;
         table-is = made .table-is ∙ same-left table₁ table l (unwritten tidying r (length code)) (shaped tidying r) g

@@ -3,4 +3,3 @@ pub mod Programs
 pub mod Charged
 pub mod Given
 pub mod Laws
-pub mod Compiled

@@ -13,24 +13,25 @@ use Rattle.compiler.specs.Compiling.{shaped, unwritten, answerFor, table
 use Rattle.compiler.specs.declared.Compilation.{Compilation}
 use Rattle.compiler.specs.declared.Compilation.the-variants.{Refused}
 
--- A table that holds a pattern as it was read from p bytes or fewer, or as it was tidied, and nothing else.
-pub record Holds (table : List ℕ) (n : ℕ) (r : Node) (g p : ℕ) : Type 0 where
+-- A pattern stored in a table: its records are the first n, behind them all is zero, and there is room for what it is tidied
+-- to; it was read from p bytes or fewer, and g is the number that a next group would have.
+pub record Stored (table : List ℕ) (n : ℕ) (r : Node) (g p : ℕ) : Type 0 where
   pub held : Held table n r g p
   pub whole : table ≡ tableOf r (length table)
 
-pub record SomeHolds (table : List ℕ) (n : ℕ) : Type 0 where
+pub record SomeStored (table : List ℕ) (n : ℕ) : Type 0 where
   pub node : Node
   pub groups : ℕ
   pub bytes : ℕ
-  pub holds : Holds table n node groups bytes
+  pub stored : Stored table n node groups bytes
 
 -- Whether the pattern has too many rows.
 pub record TellsRows (many : Bool) (table : List ℕ) (n : ℕ) : Type 0 where
-  pub by : (r : Node) (g p : ℕ) → Holds table n r g p → many ≡ ltb rowLimit (rowsNeeded r)
+  pub by : (r : Node) (g p : ℕ) → Stored table n r g p → many ≡ ltb rowLimit (rowsNeeded r)
 
--- The table holds the pattern that becomes rows.
+-- The pattern that becomes rows is stored in its place.
 pub record Shapes (tidying : Bool) (table table′ : List ℕ) (n n′ : ℕ) : Type 0 where
-  pub by : (r : Node) (g p : ℕ) → Holds table n r g p → length table′ ≡ length table → Holds table′ n′ (shaped tidying r) g p
+  pub by : (r : Node) (g p : ℕ) → Stored table n r g p → length table′ ≡ length table → Stored table′ n′ (shaped tidying r) g p
 
 -- A refusal that makes the table zero.
 pub record Cleared (number : ℕ) (table table′ : List ℕ) (answer : Compilation) : Type 0 where
@@ -46,4 +47,4 @@ pub record Programmed (tidying : Bool) (table table′ : List ℕ) (g : ℕ) (co
 
 pub record Programs (tidying : Bool) (table table′ : List ℕ) (n g : ℕ) (code code′ : List ℕ) (answer : Compilation)
     : Type 0 where
-  pub by : (r : Node) (h p : ℕ) → Holds table n r h p → Programmed tidying table table′ g code code′ answer r
+  pub by : (r : Node) (h p : ℕ) → Stored table n r h p → Programmed tidying table table′ g code code′ answer r

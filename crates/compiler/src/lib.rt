@@ -1,6 +1,6 @@
 // From a pattern's bytes to the code of its program, or to the outline's refusal: of the pattern as it was read, or tidied.
 ghost use Rattle.compiler.specs.Compiling.{plain, tidied, Compiles};
-ghost use Rattle.compiler.specs.Programs.{SomeHolds, TellsRows, Shapes, Cleared, Programs};
+ghost use Rattle.compiler.specs.Programs.{SomeStored, TellsRows, Shapes, Cleared, Programs};
 use code_rows::Emission;
 use meaning::limits::LEAST_ROWS;
 use meaning::limits::ROW_LIMIT;
@@ -24,18 +24,18 @@ fn without_program(table: &mut [u32], number: u32) -> Compilation
     Compilation::Refused { number, place: 0 }
 }
 
-// Whether the pattern that a table holds has too many rows. What is asked: that there is such a pattern.
+// Whether the pattern that is stored in a table has too many rows. What is asked: that there is such a pattern.
 fn many_rows(table: &[u32], records: usize) -> bool
-    requires { ⌜ SomeHolds (now table) records ⌝ }
+    requires { ⌜ SomeStored (now table) records ⌝ }
     ensures { λ r. ⌜ TellsRows r (now (table .entry)) records ⌝ }
 {
     let whole = table::root(table, records);
     ROW_LIMIT < LEAST_ROWS + whole.size
 }
 
-// The pattern that becomes rows, in the table. Answers how many records it has.
+// The pattern that becomes rows is stored in the place of the one that was read. Answers how many records it has.
 fn shape(tidying: bool, table: &mut [u32], records: usize) -> usize
-    requires { ⌜ SomeHolds (now table) records ⌝ }
+    requires { ⌜ SomeStored (now table) records ⌝ }
     ensures { λ r. ⌜ Shapes tidying (now (table .entry)) (now (table .exit)) records r ⌝ }
 {
     if tidying {
@@ -52,7 +52,7 @@ fn program(
     groups: u32,
     code: &mut [u32],
 ) -> Compilation
-    requires { ⌜ SomeHolds (now table) records ⌝ }
+    requires { ⌜ SomeStored (now table) records ⌝ }
     ensures { λ r. ⌜ Programs tidying (now (table .entry)) (now (table .exit)) records groups (now (code .entry))
         (now (code .exit)) r ⌝ }
 {

@@ -18,7 +18,7 @@ use Rattle.engine.specs.Answers.{replyOf, executed, Answered}
 use Rattle.engine.specs.declared.Answer.{Answer}
 use Rattle.engine.specs.declared.Answer.the-variants.{Refused}
 use Rattle.millkettle.specs.Laws.{Way, rowOf}
-use Rattle.demands.specs.Runs.{bounded-rows, counted-rows, turned-rows, Answers, compiled-standard}
+use Rattle.demands.specs.Runs.{bounded-rows, counted-rows, turned-rows, SomeStandard, compiled-standard}
 use Rattle.demands.specs.Tidied.{Neat, neat, outcome, same-answers}
 
 -- Demand 1, for any code, text, start, registers and workspace: at most two rows are executed for each row and position; the
@@ -38,7 +38,7 @@ pub demand-2 : (tidying : Bool) (way : Way) {s text : List ℕ} {start : ℕ} {t
     {registers registers′ : List ℤ} {workspace workspace′ : List ℕ} {n g : ℕ} {answer : Answer} → Bytes s → Bytes text
     → Compiles tidying s table table′ code code′ (Rows n g)
     → Answered code′ text start (rowOf way) registers workspace answer registers′ workspace′
-    → Answers tidying way s table text start n g registers registers′ workspace answer
+    → SomeStandard tidying way s table text start n g registers registers′ workspace answer
 demand-2 = compiled-standard
 
 -- Demand 3, for any pattern that `compile_tidied` answers with rows: its table holds the tidied pattern, which is alike, takes

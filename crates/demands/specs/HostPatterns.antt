@@ -69,7 +69,8 @@ small-only {s} (TurnedAway.checked (small l) h) e = (not-long, l)
 small-only (TurnedAway.checked (high l k b) h) e = absurd (omega arith)
 small-only (TurnedAway.read c x h) e = absurd (omega (arith, refusal-number x .0))
 
-small-table : (s : List ℕ) → length s ≤ patternLimit → tableSize < tableWords (length s) → reading s tableSize ≡ refused No.smallTable 0
+small-table : (s : List ℕ) → length s ≤ patternLimit → tableSize < tableWords (length s)
+    → reading s tableSize ≡ refused No.smallTable 0
 unfolding reading
 small-table s h k = rw (le-ltb patternLimit (length s) h, lt-ltb tableSize (tableWords (length s)) k)
 

@@ -13,11 +13,11 @@ use Rattle.meaning.specs.Refusals as No
 use Rattle.meaning.specs.Grounds.{Ground, firstOf, Tells, exactly-told, none-holds}
 use Rattle.machine.specs.Steps.{Machine, best, count}
 use Rattle.machine.specs.Words.{groupsSaid, decode}
+use Rattle.machine.specs.Width.{spans-length}
 use Rattle.machine.specs.Replies.{runOf, replyTo, valuesOf, registersFrom, spans}
 use Rattle.wire.specs.Wire.{bytesOfInts, written}
 use Rattle.wire.specs.Written.{ints-over, ints-same}
 use Rattle.host.specs.Surface.{lentWords, allWords, allInts, lentTo, byteGrounds, RunsBytes}
-use Rattle.host.specs.Width.{spans-length}
 use Rattle.host.specs.declared.Ran.{Ran}
 
 -- The number passed is that of the refusal, 0 for none.

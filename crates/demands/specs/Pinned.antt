@@ -3,20 +3,19 @@ use mathlib.Core.Path.{_≡_, sym, ap, _∙_}
 use mathlib.Core.Bool.{Bool}
 use mathlib.Core.List.{List}
 use Prim.Native.Nat.{ℕ}
-use native.Mathlib.Omega.{arith}
 use lib.IntN.{ℤ}
 use lib.ListN.{length}
 use Rattle.machine.specs.Replies.{lend, reply, registersAfter}
 use Rattle.compiler.specs.Compiling.{Compiles}
 use Rattle.compiler.specs.declared.Compilation.{Compilation}
-use Rattle.engine.specs.Answers.{replyOf, Answered}
+use Rattle.engine.specs.Answers.{Answered}
 use Rattle.engine.specs.declared.Answer.{Answer}
-use Rattle.engine.specs.declared.Answer.the-variants.{Found, Missing, Refused}
 use Rattle.millkettle.specs.Finding.{Finds}
 use Rattle.millkettle.specs.declared.Finding.{Finding}
 use Rattle.host.specs.Surface.{CompilesBytes, RunsBytes}
 use Rattle.host.specs.declared.Compiled.{Compiled}
 use Rattle.host.specs.declared.Ran.{Ran}
+use Rattle.demands.specs.Runs.{one-answer}
 
 -- Two replies that are one definition's agree.
 pub agree : {A : Type 0} {a b definition : A} → a ≡ definition → b ≡ definition → a ≡ b
@@ -26,18 +25,6 @@ agree e f = e ∙ sym f
 pub one-compilation : {tidying : Bool} {s table t₁ t₂ code c₁ c₂ : List ℕ} {a₁ a₂ : Compilation}
     → Compiles tidying s table t₁ code c₁ a₁ → Compiles tidying s table t₂ code c₂ a₂ → (a₁ ≡ a₂) × (t₁ ≡ t₂) × (c₁ ≡ c₂)
 one-compilation f g = (agree (f .answers) (g .answers), agree (f .table-is) (g .table-is), agree (f .code-is) (g .code-is))
-
--- Answers of one reply are the same.
-one-answer : (r q : Answer) → replyOf r ≡ replyOf q → r ≡ q
-one-answer (Found n) (Found m) e = cc
-one-answer (Found n) (Missing m) e = absurd (let z : _≡_ {A = ℕ} 0 1 = cc in omega arith)
-one-answer (Found n) (Refused m) e = absurd (let z : _≡_ {A = ℕ} 0 1 = cc in omega arith)
-one-answer (Missing n) (Found m) e = absurd (let z : _≡_ {A = ℕ} 0 1 = cc in omega arith)
-one-answer (Missing n) (Missing m) e = cc
-one-answer (Missing n) (Refused m) e = absurd (let z : _≡_ {A = ℕ} 0 1 = cc in omega arith)
-one-answer (Refused n) (Found m) e = absurd (let z : _≡_ {A = ℕ} 0 1 = cc in omega arith)
-one-answer (Refused n) (Missing m) e = absurd (let z : _≡_ {A = ℕ} 0 1 = cc in omega arith)
-one-answer (Refused n) (Refused m) e = cc
 
 -- Two of `match_at`, or of `search`: answer and registers, whatever their workspaces of one length held.
 pub one-run : {code text : List ℕ} {start row : ℕ} {before after after′ : List ℤ}

@@ -1,11 +1,10 @@
 -- What the promises of a run say of any code, and of code that says a pattern: the bound, the count, and the answer of the
 -- standard.
-use mathlib.Core.Path.{_≡_, sym, ap, ap₂, _∙_}
+use mathlib.Core.Path.{_≡_, refl, sym, ap, ap₂, _∙_}
 use mathlib.Core.Bool.{Bool}
 use mathlib.Core.Option.{Option, none, some}
 use mathlib.Core.List.{List, _++_}
 use Prim.Native.Nat.{ℕ, suc, _+_, _*_, _-_, _≤_}
-use native.Mathlib.Omega.{arith}
 use lib.IntN.{ℤ}
 use lib.ListN.{length, drop}
 use Rattle.meaning.specs.Text.{Regs, registersOf}
@@ -13,16 +12,36 @@ use Rattle.meaning.specs.Bytes.{Bytes}
 use Rattle.meaning.specs.Node.{Node}
 use Rattle.machine.specs.Steps.{Machine, best, count}
 use Rattle.machine.specs.Words.{rowsSaid, groupsSaid}
-use Rattle.machine.specs.Replies.{Reply.refused, Lent, lentBy, turnedAway, refusal, runOf, answerOf, replyTo, reply, spans}
-use Rattle.machine.specs.Replies.{registersFrom, registersAfter}
+use Rattle.machine.specs.Allowed.{within}
+use Rattle.machine.specs.Replies.{Reply, Reply.found, Reply.missing, Reply.refused, valuesOf, Lent, lentBy, turnedAway, refusal}
+use Rattle.machine.specs.Replies.{runOf, answerOf, replyTo, reply, spans, registersFrom, registersAfter}
 use Rattle.reading_items.specs.Reading.{Reading.pattern, reading}
 use Rattle.compiler.specs.Compiling.{shaped, Compiles}
-use Rattle.compiler.specs.Compiled.{Coded, Compiled, compiled}
+use Rattle.millkettle.specs.Compiled.{Coded, Compiled, compiled}
 use Rattle.compiler.specs.declared.Compilation.the-variants.{Rows}
 use Rattle.engine.specs.Answers.{replyOf, executed, Answered}
 use Rattle.engine.specs.declared.Answer.{Answer}
 use Rattle.engine.specs.declared.Answer.the-variants.{Found, Missing, Refused}
-use Rattle.millkettle.specs.Laws.{Way, rowOf, standardBy, finds, conditions, within}
+use Rattle.millkettle.specs.Laws.{Way, rowOf, standardBy, finds, conditions}
+
+-- Answers of one reply are the same, and a run's reply has its count.
+answerAs : Reply → Answer
+answerAs (found n) = Found n
+answerAs (missing n) = Missing n
+answerAs (refused n) = Refused n
+
+told-back : (r : Answer) → answerAs (replyOf r) ≡ r
+unfolding answerAs
+told-back (Found n) = refl
+told-back (Missing n) = refl
+told-back (Refused n) = refl
+
+pub one-answer : (r q : Answer) → replyOf r ≡ replyOf q → r ≡ q
+one-answer r q e = sym (told-back r) ∙ ap answerAs e ∙ told-back q
+
+count-of : (o : Option Regs) (n : ℕ) → valuesOf (answerOf o n) .count ≡ n
+count-of none n = refl
+count-of (some ρ) n = refl
 
 -- Demand 1: for any code, text, start and buffers, at most two rows are executed for each row and position,
 module _ {code text : List ℕ} {start row : ℕ} {registers registers′ : List ℤ} {workspace workspace′ : List ℕ} {r : Answer}
@@ -36,31 +55,21 @@ module _ {code text : List ℕ} {start row : ℕ} {registers registers′ : List
   pub bounded-rows : executed r ≤ 2 * rowsSaid code * (length text - start + 1)
   bounded-rows = a .bounded
 
+  replied : (k : ℕ) → refusal code lent ≡ k → replyOf r ≡ replyTo k (best M) (count M)
+  unfolding reply
+  replied k e = a .replies ∙ ap (λ n. replyTo n (best M) (count M)) e
+
   -- a run that is not turned away reports the steps' count,
   pub counted-rows : refusal code lent ≡ 0 → executed r ≡ count M
-  unfolding reply
-  counted-rows e = go r (best M) (a .replies ∙ ap (λ k. replyTo k (best M) (count M)) e)
-    where
-      go : (r : Answer) (o : Option Regs) → replyOf r ≡ answerOf o (count M) → executed r ≡ count M
-      go (Found n) (some ρ) e = cc
-      go (Missing n) none e = cc
-      go (Found n) none e = absurd (let z : _≡_ {A = ℕ} 0 1 = cc in omega arith)
-      go (Missing n) (some ρ) e = absurd (let z : _≡_ {A = ℕ} 0 1 = cc in omega arith)
-      go (Refused n) none e = absurd (let z : _≡_ {A = ℕ} 0 1 = cc in omega arith)
-      go (Refused n) (some ρ) e = absurd (let z : _≡_ {A = ℕ} 0 1 = cc in omega arith)
+  counted-rows e = ap (λ x. valuesOf x .count) (replied 0 e) ∙ count-of (best M) (count M)
 
   -- and one that is turned away says the first number in order whose condition holds, and changes nothing.
   pub turned-rows : (k : ℕ) → refusal code lent ≡ suc k
       → (r ≡ Refused (suc k)) × (registers′ ≡ registers) × (workspace′ ≡ workspace)
-  unfolding reply registersAfter
+  unfolding registersAfter
   turned-rows k e =
-      let is : r ≡ Refused (suc k) = go r (a .replies ∙ ap (λ k. replyTo k (best M) (count M)) e) in
+      let is : r ≡ Refused (suc k) = one-answer r (Refused (suc k)) (replied (suc k) e) in
       (is, a .spans ∙ ap (λ k. registersFrom k (groupsSaid code) (best M) registers) e, a .untouched (suc k) is)
-    where
-      go : (r : Answer) → replyOf r ≡ refused (suc k) → r ≡ Refused (suc k)
-      go (Found n) e = absurd (let z : _≡_ {A = ℕ} 0 1 = cc in omega arith)
-      go (Missing n) e = absurd (let z : _≡_ {A = ℕ} 0 1 = cc in omega arith)
-      go (Refused n) e = cc
 
 -- Demand 2: code that says the program of a pattern, as `compile` leaves it, answers as the standard's algorithm does on that
 -- pattern: found with every group's span, or none exactly if that finds nothing; it is turned away only by 21 to 24.
@@ -78,23 +87,22 @@ pub answers-standard : (way : Way) {code text : List ℕ} {start : ℕ} {registe
     {n g : ℕ} {r : Node} {answer : Answer} → Bytes text → Coded code n g r
     → Answered code text start (rowOf way) registers workspace answer registers′ workspace′
     → Standard way r n g text start registers registers′ workspace answer
-unfolding reply registersAfter
+unfolding registersAfter
 answers-standard way {code} {text} {start} {registers} {workspace = workspace} {n = n} {g = g} {r = r} bytes m a =
     let lent : Lent = lentBy text start registers workspace in
     let M : Machine = runOf code text start (rowOf way) in
     let same : refusal code lent ≡ turnedAway n g lent = conditions m lent in
-    let found : turnedAway n g lent ≡ 0 → best M ≡ standardBy way text g r start
+    let same-found : turnedAway n g lent ≡ 0 → best M ≡ standardBy way text g r start
     = λ e. finds m text bytes start way (within n g lent e) in
     record {
-      answers = λ e. a .replies ∙ ap (λ k. replyTo k (best M) (count M)) (same ∙ e)
-          ∙ ap₂ answerOf (found e) (sym (counted-rows a (same ∙ e)));
+      answers = λ e. replied a 0 (same ∙ e) ∙ ap₂ answerOf (same-found e) (sym (counted-rows a (same ∙ e)));
       spans-are = λ e. a .spans ∙ ap (λ k. registersFrom k (groupsSaid code) (best M) registers) (same ∙ e)
-          ∙ ap₂ (λ k o. registersFrom 0 k o registers) (m .groups-said) (found e);
+          ∙ ap₂ (λ k o. registersFrom 0 k o registers) (m .groups-said) (same-found e);
       refuses = λ k e. turned-rows a k (same ∙ e) .0;
     }
 
 -- So do the calls on what was compiled, plain or tidied.
-pub record Answers (tidying : Bool) (way : Way) (s table text : List ℕ) (start n g : ℕ) (registers registers′ : List ℤ)
+pub record SomeStandard (tidying : Bool) (way : Way) (s table text : List ℕ) (start n g : ℕ) (registers registers′ : List ℤ)
     (workspace : List ℕ) (answer : Answer) : Type 0 where
   pub node : Node
   pub is-read : reading s (length table) ≡ pattern node g
@@ -104,7 +112,7 @@ pub compiled-standard : (tidying : Bool) (way : Way) {s text : List ℕ} {start 
     {registers registers′ : List ℤ} {workspace workspace′ : List ℕ} {n g : ℕ} {answer : Answer} → Bytes s → Bytes text
     → Compiles tidying s table table′ code code′ (Rows n g)
     → Answered code′ text start (rowOf way) registers workspace answer registers′ workspace′
-    → Answers tidying way s table text start n g registers registers′ workspace answer
+    → SomeStandard tidying way s table text start n g registers registers′ workspace answer
 compiled-standard tidying way {s} {table = table} {code = code} {n = n} {g = g} bs bt h a =
     let m : Compiled tidying s table code n g = compiled tidying s table code n g bs (sym (h .answers)) in
     record {

@@ -16,6 +16,7 @@ use Rattle.meaning.specs.Text.{Regs, registersOf}
 use Rattle.meaning.specs.Bytes.{Bytes, asserts, textOf}
 use Rattle.meaning.specs.Node.{Node}
 use Rattle.meaning.specs.Numbering.{Numbers}
+use Rattle.machine.specs.Allowed.{within}
 use Rattle.machine.specs.Replies.{Reply, Reply.found, Reply.missing, Reply.refused, Lent, lentBy, lentGrounds, turnedAway}
 use Rattle.machine.specs.Replies.{answerOf, spans}
 use Rattle.tidying_laws.specs.Alike.{Alike}
@@ -23,7 +24,7 @@ use Rattle.tidying_laws.specs.Around.{Around, fill}
 use Rattle.meaning.specs.All.{All}
 use Rattle.tidying_laws.specs.Void.{fair}
 use Rattle.tidying_laws.specs.Within.{Stands}
-use Rattle.tidying_laws.specs.Words.{words}
+use Rattle.tidying_laws.specs.List.{words}
 use Rattle.tidying_laws.specs.Tidier.{tidy}
 use Rattle.tidying_laws.specs.Tidy.{tidy-alike, tidy-rows, tidy-clean, tidy-match, tidy-search}
 use Rattle.reading_items.specs.Read.{what-is-read}
@@ -31,12 +32,12 @@ use Rattle.reading_items.specs.Reading.{Reading.pattern, reading, tableBy}
 use Rattle.code_rows.specs.Emission.{rowsNeeded}
 use Rattle.compiler.specs.Compiling.{plain, tidied, programGrounds, unwritten, answerFor, tableFor, answerBy, tableLeft}
 use Rattle.compiler.specs.Compiling.{compilation, tableAt, codeAt, Compiles}
-use Rattle.compiler.specs.Compiled.{Coded, Compiled, compiled}
+use Rattle.millkettle.specs.Compiled.{Coded, Compiled, compiled}
 use Rattle.compiler.specs.declared.Compilation.{Compilation}
 use Rattle.compiler.specs.declared.Compilation.the-variants.{Rows}
 use Rattle.engine.specs.Answers.{replyOf, executed, Answered}
 use Rattle.engine.specs.declared.Answer.{Answer}
-use Rattle.millkettle.specs.Laws.{Way, Way.matching, Way.searching, rowOf, standardBy, within}
+use Rattle.millkettle.specs.Laws.{Way, Way.matching, Way.searching, rowOf, standardBy}
 use Rattle.demands.specs.Runs.{answers-standard}
 
 -- A pattern that was compiled tidied: what it was read as, its code, and what the table holds.

@@ -43,8 +43,7 @@ tidied-word = refl
 
 -- The first word of a table is the kind of the first record: 1 for the empty pattern, 2 for `a`.
 empty-kind : getD (tableAt tidied [] table code) 0 0 ≡ 1
-unfolding reading alternativesGo sequenceGo parts sizeOf tidy tidies tidyStep found lowest laws t1 t2 t3 t4 t5 t6 t7 t8 t9 places
-    weight recordsIn ownRecord wordsIn lo hi
+unfolding reading alternativesGo sequenceGo parts sizeOf computed recordsIn ownRecord wordsIn lo hi
 empty-kind = refl
 
 set-kind : getD (tableAt tidied (bytes "a") table code) 0 0 ≡ 2

@@ -6,7 +6,8 @@ use lib.IntN.{ℤ}
 use lib.ListN.{length, getD}
 use Rattle.meaning.specs.Limits.{workspaceWords}
 use Rattle.machine.specs.Words.{rowsSaid, groupsSaid}
-use Rattle.machine.specs.Replies.{Reply, Reply.found, Reply.missing, Reply.refused, valuesOf, lentBy, reply, registersAfter, shown}
+use Rattle.machine.specs.Replies.{Reply, Reply.found, Reply.missing, Reply.refused, valuesOf, lentBy, reply}
+use Rattle.machine.specs.Replies.{registersAfter, shown}
 use Rattle.running_threads.specs.Threads.{regOf}
 use Rattle.engine.specs.declared.Answer.{Answer}
 use Rattle.engine.specs.declared.Answer.the-variants.{Found, Missing, Refused}

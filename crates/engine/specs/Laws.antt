@@ -7,7 +7,7 @@ use Prim.Native.Nat.{ℕ, zero, suc, _+_, _*_, _-_, _<_, _≤_}
 use native.Mathlib.Nat.{mul-le-mul}
 use native.Mathlib.Numerals.{add-one}
 use native.Mathlib.Omega.{arith}
-use borrow.Author.Tests.{not-false, ltb-false, lt-ltb, le-ltb}
+use borrow.Author.Tests.{lt-ltb, le-ltb}
 use lib.IntN.{ℤ, pos, negsuc}
 use lib.Signed.{mag}
 use mir.Syntax.{w32}
@@ -18,13 +18,12 @@ use lib.Seq.{take-suc, drop-cons, getD-drop, set-at}
 use Rattle.meaning.specs.Text.{registersOf}
 use Rattle.meaning.specs.Bytes.{textOf}
 use Rattle.meaning.specs.Limits.{textLimit, positionLimit, workspaceWords, leastRows, rowLimit, groupLimit}
-use Rattle.meaning.specs.Refusals as No
-use Rattle.meaning.specs.Grounds.{Tells, told, none-holds}
 use Rattle.machine.specs.Steps.{Machine, best, count}
-use Rattle.machine.specs.Words.{rowsSaid, groupsSaid, decode, codePasses}
+use Rattle.machine.specs.Words.{rowsSaid, groupsSaid, decode}
 use Rattle.machine.specs.Coded.{rowsIn-length}
 use Rattle.machine.specs.Passed.{run-frugal}
-use Rattle.machine.specs.Replies.{Lent, lentBy, runGrounds, refusal, runOf}
+use Rattle.machine.specs.Allowed.{allowed}
+use Rattle.machine.specs.Replies.{Lent, lentBy, refusal, runOf}
 use Rattle.machine.specs.Replies.{answerOf, replyTo, reply, shown, spans, registersFrom, registersAfter}
 use Rattle.running_moves.specs.Ready.{ready}
 use Rattle.running_threads.specs.Words.{wordsAt}
@@ -42,29 +41,6 @@ use Rattle.engine.specs.declared.Answer.the-variants.{Found, Missing, Re
 -- Positions of a text that is not too long fit a register.
 pub text-small : textLimit + 2 < positionLimit
 text-small = omega arith
-
--- A call is turned away by the first number whose ground holds, and by 0 if none does.
-pub turned : (number : ℕ) (code : List ℕ) (lent : Lent) → Tells (runGrounds code lent) number → number ≡ refusal code lent
-unfolding refusal
-turned number code lent t = told number (runGrounds code lent) t
-
--- What holds of a call that is not turned away.
-pub record Allowed (code : List ℕ) (lent : Lent) : Type 0 where
-  pub passes : codePasses code ≡ true
-  pub short : length (lent .text) ≤ textLimit
-  pub inside : lent .start ≤ length (lent .text)
-  pub enough : registersOf (groupsSaid code) ≤ lent .registers
-  pub room : workspaceWords (rowsSaid code) (groupsSaid code) ≤ lent .workspace
-
-pub allowed : (code : List ℕ) (lent : Lent) → refusal code lent ≡ 0 → Allowed code lent
-unfolding refusal
-allowed code lent z = record {
-  passes = not-false _ (none-holds No.codeFails (runGrounds code lent) refl z);
-  short = ltb-false _ _ (none-holds No.longText (runGrounds code lent) refl z);
-  inside = ltb-false _ _ (none-holds No.startBeyond (runGrounds code lent) refl z);
-  enough = ltb-false _ _ (none-holds No.fewRegisters (runGrounds code lent) refl z);
-  room = ltb-false _ _ (none-holds No.smallWorkspace (runGrounds code lent) refl z);
-}
 
 -- The words that a run needs are few.
 pub words-few : (n g : ℕ) → n ≤ rowLimit → g ≤ groupLimit → workspaceWords n g ≤ workspaceWords rowLimit groupLimit

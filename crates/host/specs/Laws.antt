@@ -18,25 +18,24 @@ use Rattle.meaning.specs.Refusals as No
 use Rattle.meaning.specs.Grounds.{ground, firstOf, same-behind}
 use Rattle.machine.specs.Words.{rowsSaid, groupsSaid, decode, codePasses}
 use Rattle.machine.specs.Steps.{Machine, best, count}
+use Rattle.machine.specs.Allowed.{allowed}
+use Rattle.machine.specs.Width.{spans-length}
 use Rattle.machine.specs.Replies.{Reply.refused, Lent, lend, lentBy, refusal, replyTo, runOf, reply, spans, registersFrom}
 use Rattle.machine.specs.Replies.{lentGrounds, registersAfter}
 use Rattle.running_moves.specs.Ready.{ready}
 use Rattle.reading_items.specs.Reading.{reading}
-use Rattle.compiler.specs.Compiling.{answerBy, codeLeft, Compiles}
-use Rattle.compiler.specs.declared.Compilation.{Compilation}
-use Rattle.engine.specs.Answers.{replyOf, Answered}
-use Rattle.engine.specs.Laws.{allowed}
-use Rattle.engine.specs.declared.Answer.{Answer}
+use Rattle.millkettle.specs.Calls.Compiling.{answerBy, codeLeft, Compiles}
+use Rattle.millkettle.specs.Calls.{Compilation}
+use Rattle.millkettle.specs.Calls.Answers.{replyOf, Answered}
+use Rattle.millkettle.specs.Calls.{Answer}
 use Rattle.wire.specs.Wire.{wordsOf, bytesOfWords, intsOf, bytesOfInts, written}
 use Rattle.wire.specs.Words.{words-length}
 use Rattle.wire.specs.Ints.{ints-length}
 use Rattle.wire.specs.Written.{ints-over, ints-same}
 use Rattle.meaning.specs.Limits.{tableSize, codeSize, workspaceSize}
-use Rattle.host.specs.Sizes.{registerCount}
-use Rattle.host.specs.Surface.{compiledNumbers, ranNumbers, lentWords, codeLent, allWords, allInts}
+use Rattle.host.specs.Surface.{registerCount, compiledNumbers, ranNumbers, lentWords, codeLent, allWords, allInts}
 use Rattle.host.specs.Surface.{lentTo, byteGrounds, replyLent, registersLent}
 use Rattle.host.specs.Surface.{CompilesBytes, RunsBytes}
-use Rattle.host.specs.Width.{spans-length}
 use Rattle.host.specs.declared.Compiled.{Compiled}
 use Rattle.host.specs.declared.Ran.{Ran}
 
@@ -109,9 +108,12 @@ module _ (row : ℕ) (code text : List ℕ) (start : ℕ) (registers : List ℕ)
   same-room : (g : ℕ) → g ≤ groupLimit → ltb (used registers) (registersOf g) ≡ ltb (lent registers) (registersOf g)
   same-room g few = by (decLt (lent registers) (registersOf g))
     where
-      by : Dec (lent registers < registersOf g) → ltb (used registers) (registersOf g) ≡ ltb (lent registers) (registersOf g)
-      by (yes l) = lt-ltb (used registers) (registersOf g) (omega arith) ∙ sym (lt-ltb (lent registers) (registersOf g) l)
-      by (no l) = le-ltb (used registers) (registersOf g) (omega arith) ∙ sym (le-ltb (lent registers) (registersOf g) (omega arith))
+      m : ℕ
+      m = registersOf g
+
+      by : Dec (lent registers < m) → ltb (used registers) m ≡ ltb (lent registers) m
+      by (yes l) = lt-ltb (used registers) m (omega arith) ∙ sym (lt-ltb (lent registers) m l)
+      by (no l) = le-ltb (used registers) m (omega arith) ∙ sym (le-ltb (lent registers) m (omega arith))
 
   module _ (fits : lentWords (length code) ≤ codeSize) where
     -- The number is that of the call inside,

@@ -1,4 +1,2 @@
-pub mod Sizes
 pub mod Surface
-pub mod Width
 pub mod Laws

@@ -6,17 +6,18 @@ use Prim.Native.Nat.{ℕ, _/_, min}
 use lib.Dec.{ltb}
 use lib.IntN.{ℤ}
 use lib.ListN.{length}
+use Rattle.meaning.specs.Text.{registersOf}
+use Rattle.meaning.specs.Limits.{groupLimit, tableSize, codeSize, workspaceSize}
 use Rattle.meaning.specs.Refusals as No
 use Rattle.meaning.specs.Grounds.{Ground, ground, firstOf}
 use Rattle.machine.specs.Steps.{Machine, best, count}
 use Rattle.machine.specs.Words.{rowsSaid, groupsSaid, codePasses}
 use Rattle.machine.specs.Replies.{Reply, valuesOf, Lent, lend, lentGrounds, runOf, replyTo, registersFrom}
 use Rattle.reading_items.specs.Reading.{reading}
-use Rattle.compiler.specs.Compiling.{answerBy, codeLeft}
-use Rattle.compiler.specs.declared.Compilation.{Compilation}
-use Rattle.compiler.specs.declared.Compilation.the-variants.{Rows, Refused}
+use Rattle.millkettle.specs.Calls.Compiling.{answerBy, codeLeft}
+use Rattle.millkettle.specs.Calls.{Compilation}
+use Rattle.millkettle.specs.Calls.Compilation.{Rows, Refused}
 use Rattle.wire.specs.Wire.{wordsOf, intsOf, bytesOfWords, bytesOfInts, written}
-use Rattle.meaning.specs.Limits.{tableSize, codeSize, workspaceSize}
 use Rattle.host.specs.declared.Compiled.{Compiled}
 use Rattle.host.specs.declared.Ran.{Ran}
 
@@ -33,6 +34,10 @@ ranNumbers r = record {
   place = valuesOf r .place;
   count = valuesOf r .count;
 }
+
+-- The registers inside: as many as any run writes.
+abbrev pub registerCount : ℕ
+registerCount = registersOf groupLimit
 
 -- The words that bytes lend: a part word counts as not lent.
 abbrev pub lentWords : ℕ → ℕ

@@ -2,8 +2,8 @@
 use mathlib.Core.Path.{_≡_}
 use mathlib.Core.List.{List, []}
 use Prim.Native.Nat.{ℕ, _+_, _*_}
-use Rattle.compiler.specs.declared.Compilation.{Compilation}
-use Rattle.compiler.specs.declared.Compilation.the-variants.{Rows, Refused}
+use Rattle.millkettle.specs.Calls.{Compilation}
+use Rattle.millkettle.specs.Calls.Compilation.{Rows, Refused}
 use Rattle.intake_report.specs.Wrote.{Wrote}
 use Rattle.intake_lines.specs.Intake.{registerCount, compiled, codeFrom, patternLine, lineFor}
 use Rattle.intake_lines.specs.declared.Phase.{Phase}

@@ -13,9 +13,9 @@ use Rattle.machine.specs.Steps.{searchRow}
 use Rattle.machine.specs.Words.{groupsSaid}
 use Rattle.machine.specs.Replies.{Reply, Reply.found, Reply.missing, Reply.refused, Lent, lend, reply, registersAfter}
 use Rattle.reading_items.specs.Reading.{reading}
-use Rattle.compiler.specs.Compiling.{plain, answerBy, codeLeft}
-use Rattle.compiler.specs.declared.Compilation.{Compilation}
-use Rattle.compiler.specs.declared.Compilation.the-variants.{Rows, Refused}
+use Rattle.millkettle.specs.Calls.Compiling.{plain, answerBy, codeLeft}
+use Rattle.millkettle.specs.Calls.{Compilation}
+use Rattle.millkettle.specs.Calls.Compilation.{Rows, Refused}
 use Rattle.intake_report.specs.Texts.{spansLine, headerLine, refusedAt, refusedRun, noneLine}
 use Rattle.intake_report.specs.Lines.{linesOf}
 

@@ -10,14 +10,14 @@ use Rattle.meaning.specs.Refusals as No
 use Rattle.meaning.specs.Text.{registersOf}
 use Rattle.machine.specs.Steps.{Machine, best, count, searchRow}
 use Rattle.machine.specs.Words.{groupsSaid}
+use Rattle.machine.specs.Allowed.{allowed}
 use Rattle.machine.specs.Replies.{Reply.found, lend, lentBy, refusal, runOf, replyTo, reply, registersAfter}
 use Rattle.reading_items.specs.Reading.{reading}
-use Rattle.compiler.specs.Compiling.{plain, Compiles, answerBy, codeLeft}
-use Rattle.compiler.specs.declared.Compilation.{Compilation}
-use Rattle.engine.specs.Answers.{replyOf, Answered}
-use Rattle.engine.specs.Laws.{allowed}
-use Rattle.engine.specs.declared.Answer.{Answer}
-use Rattle.engine.specs.declared.Answer.the-variants.{Found}
+use Rattle.millkettle.specs.Calls.Compiling.{plain, Compiles, answerBy, codeLeft}
+use Rattle.millkettle.specs.Calls.{Compilation}
+use Rattle.millkettle.specs.Calls.Answers.{replyOf, Answered}
+use Rattle.millkettle.specs.Calls.{Answer}
+use Rattle.millkettle.specs.Calls.Answer.{Found}
 use Rattle.intake_report.specs.Texts.{refusedRun}
 use Rattle.intake_report.specs.Wrote.{Wrote, wrote-none, wrote-as}
 use Rattle.intake_lines.specs.Intake.{lineLimit, registerCount}

@@ -6,13 +6,13 @@ ghost use Rattle.intake_report.specs.Wrote.{Wrote};
 ghost use Rattle.intake_lines.specs.Intake.{lineFor};
 ghost use Rattle.intake_lines.specs.Ended.{lineRoom, Ends};
 ghost use Rattle.intake_lines.specs.declared.Phase.the-variants.{Pattern};
-use compiler::Compilation;
-use engine::Answer;
 use machine::GROUPS;
 use meaning::limits::CODE_SIZE;
 use meaning::limits::REGISTER_LIMIT;
 use meaning::limits::TABLE_SIZE;
 use meaning::limits::WORKSPACE_SIZE;
+use millkettle::Answer;
+use millkettle::Compilation;
 
 // The most bytes of a line.
 pub const LINE_LIMIT: usize = 4096;

@@ -13,4 +13,6 @@ pub mod Compiled
 pub mod Answers
 pub mod Coded
 pub mod Replies
+pub mod Allowed
+pub mod Width
 pub mod Examples

@@ -10,12 +10,13 @@ use Rattle.meaning.specs.Text.{Regs}
 use Rattle.meaning.specs.Bytes.{Bytes}
 use Rattle.meaning.specs.Grounds.{firstOf, NoneOf, exactly-told, first-before, none-before}
 use Rattle.machine.specs.Steps.{Machine, best, count, searchRow}
+use Rattle.machine.specs.Allowed.{within}
 use Rattle.machine.specs.Replies.{Lent, lentBy, lentGrounds, refusal, turnedAway, runOf, answerOf, replyTo, reply}
 use Rattle.machine.specs.Replies.{registersFrom, registersAfter}
 use Rattle.reading_items.specs.Reading.{Reading, Reading.pattern, Reading.refused, reading}
 use Rattle.code_rows.specs.Emission.{rowsNeeded}
 use Rattle.compiler.specs.Compiling.{plain, programGrounds, unwritten, answerFor, answerBy, tableAt, codeAt, Compiles}
-use Rattle.compiler.specs.Compiled.{Compiled, compiled}
+use Rattle.millkettle.specs.Compiled.{Compiled, compiled}
 use Rattle.compiler.specs.declared.Compilation.{Compilation}
 use Rattle.compiler.specs.declared.Compilation.the-variants.{Rows, Refused as Turned}
 use Rattle.engine.specs.Answers.{executed, Answered}
@@ -23,7 +24,7 @@ use Rattle.engine.specs.declared.Answer.{Answer}
 use Rattle.engine.specs.declared.Answer.the-variants.{Found as Ran, Missing as Ended, Refused as Stopped}
 use Rattle.millkettle.specs.Finding.{sought, stepsTaken, findGrounds, findingBy, finding, findingFrom, findingOf}
 use Rattle.millkettle.specs.Finding.{spansBy, spansLeft, counted, Finds}
-use Rattle.millkettle.specs.Laws.{Way.searching, conditions, same-run, finds, within}
+use Rattle.millkettle.specs.Laws.{Way.searching, conditions, same-run, finds}
 use Rattle.millkettle.specs.declared.Finding.{Finding}
 use Rattle.millkettle.specs.declared.Finding.the-variants.{Refused}
 

@@ -1,12 +1,9 @@
 -- Code that says a pattern's program: what a run of it finds is the standard's answer, under the exact conditions of a run.
-use mathlib.Core.Path.{_≡_, refl, ap, _∙_}
+use mathlib.Core.Path.{_≡_, ap, _∙_}
 use mathlib.Core.Option.{Option}
 use mathlib.Core.List.{List}
 use Prim.Native.Nat.{ℕ, _≤_}
-use borrow.Author.Tests.{ltb-false}
 use lib.ListN.{length}
-use Rattle.meaning.specs.Refusals as No
-use Rattle.meaning.specs.Grounds.{none-holds}
 use Rattle.meaning.specs.Text.{Regs}
 use Rattle.meaning.specs.Bytes.{Bytes, textOf}
 use Rattle.meaning.specs.Node.{Node}
@@ -15,8 +12,8 @@ use Rattle.machine.specs.Steps.{run, best, matchRow, searchRow}
 use Rattle.machine.specs.Layout.{programOf}
 use Rattle.machine.specs.Words.{decode}
 use Rattle.machine.specs.Answers.{matched, searched}
-use Rattle.machine.specs.Replies.{Lent, lentGrounds, refusal, turnedAway}
-use Rattle.compiler.specs.Compiled.{Coded}
+use Rattle.machine.specs.Replies.{Lent, refusal, turnedAway}
+use Rattle.millkettle.specs.Compiled.{Coded}
 
 -- A way to run: at the start, or searching from it on; the row that it begins at, and what the standard's algorithm finds.
 pub data Way : Type 0 where
@@ -47,7 +44,3 @@ module _ {code : List ℕ} {n g : ℕ} {r : Node} (m : Coded code n g r) where
         → best (run (textOf text) (decode code) start (rowOf way)) ≡ standardBy way text g r start
     finds matching h = ap best (same-run matchRow) ∙ matched text g r (m .numbers) bytes (m .proper) start h
     finds searching h = ap best (same-run searchRow) ∙ searched text g r (m .numbers) bytes (m .proper) start h
-
--- What is not turned away starts inside the text.
-pub within : (n g : ℕ) (lent : Lent) → turnedAway n g lent ≡ 0 → lent .start ≤ length (lent .text)
-within n g lent z = ltb-false _ _ (none-holds No.startBeyond (lentGrounds n g lent) refl z)

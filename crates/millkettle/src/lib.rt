@@ -5,8 +5,8 @@ ghost use Rattle.machine.specs.Steps.{searchRow, matchRow};
 ghost use Rattle.compiler.specs.Compiling.{plain, tidied, Compiles};
 ghost use Rattle.engine.specs.Answers.{Answered};
 ghost use Rattle.millkettle.specs.Finding.{findingOf, Finds};
-use compiler::Compilation;
-use engine::Answer;
+pub use compiler::Compilation;
+pub use engine::Answer;
 
 // What `find` answers: found or none with the count of rows executed, or the number and the place of a refusal.
 pub enum Finding {

@@ -13,10 +13,10 @@ use lib.ListN.{getD, drop, List·getD-eq-default}
 use lib.Seq.{getD-take, getD-drop}
 use borrow.Author.Tests.{lt-ltb, le-ltb, le-leb, lt-leb, ne-eqb}
 use Rattle.sets.specs.Sets.{has, bit, isWord, isDigit}
-use Rattle.meaning.specs.Limits.{setWords}
+use Rattle.meaning.specs.Limits.{setWords, lastAssertion}
 use Rattle.meaning.specs.Text.{passes}
 use Rattle.meaning.specs.Bytes.{noByte, atEdge, asserts}
-use Rattle.machine.specs.Kinds.{setWord, lastAssertion}
+use Rattle.machine.specs.Kinds.{setWord}
 use Rattle.machine.specs.Words.{wordAt, rowStart, rowIn}
 use Rattle.running_moves.specs.Keys.{rowOf}
 use Rattle.running_moves.specs.Chosen.{byteLimit, byteOf, setIn, chosen}

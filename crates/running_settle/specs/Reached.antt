@@ -57,7 +57,7 @@ firstTurn spot = record { at = spot .registers; frames = 0; queued = 0; ran = 0;
 
 abbrev pub handed : Turn → Taken → Turn
 handed turn y =
-    record { at = y .at; frames = y .frames; queued = turn .queued; ran = turn .ran; accept = turn .accept }
+    record { at = y .at; frames = y .frames; queued = turn .queued; ran = turn .ran; accept = false }
 
 -- What is left to do at a position: it falls with each turn.
 abbrev pub toDo : Plan → Spot → List ℕ → ℕ → ℕ → ℕ

@@ -172,7 +172,7 @@ module _ {code : List ℕ} {plan : Plan} {spot : Spot} {s₀ t u : List ℕ} {in
         deep = rw f (omega (arith, g .deep, k .most));
         few = rw f (g .few);
         ran = rw f (g .ran);
-        going = g .going;
+        going = refl;
         active = below-same (g .active) (λ j lt. before (spot .active + j) (omega arith));
         queue = below-same (g .queue) (λ j lt. before (spot .queue + j) (omega (arith, g .few)));
         marks = below-same (g .marks) (λ j lt. before (0 + j) (omega arith));

@@ -141,18 +141,23 @@ pub fn settle(code: &[u32], work: &mut [u32], plan: Plan, spot: Spot) -> Turn
         accept: false,
     };
     loop {
-        turn = execute(code, work, plan, spot, key, turn);
-        if turn.accept {
-            running_threads::copy(work, turn.at, plan.best, plan.width);
-            return turn;
+        let done = execute(code, work, plan, spot, key, turn);
+        if done.accept {
+            running_threads::copy(work, done.at, plan.best, plan.width);
+            return done;
         }
-        let next = running_threads::take(work, plan, spot, turn.at, index, turn.frames);
+        let next = running_threads::take(work, plan, spot, done.at, index, done.frames);
         if !next.go {
-            return turn;
+            return done;
         }
         key = next.key;
         index = next.index;
-        turn.at = next.at;
-        turn.frames = next.frames;
+        turn = Turn {
+            at: next.at,
+            frames: next.frames,
+            queued: done.queued,
+            ran: done.ran,
+            accept: false,
+        };
     }
 }

@@ -14,7 +14,10 @@ program-requires c κs =
     given-some (given bytes (search needs) (was-read .read .ensures) (known .records .given .1))
 
 refused : tie.Need-returns
-refused c = turned-away (c .before .before .before .before .before .read .ensures) (c .before .number .given .1)
+refused c =
+    let told = c .before in
+    let was-read = told .before .before .before .before in
+    turned-away (was-read .read .ensures) (told .number .given .1)
 
 returns-2 : tie.Need-returns-2
 returns-2 c =

@@ -1,11 +1,11 @@
 -- The size in a pattern's own record is held just above the limit of rows. Assumes nothing.
 use native.Mathlib.Omega.{arith}
-use Rattle.compiler.specs.Laws.{holds-some, size-small, tells-rows}
+use Rattle.compiler.specs.Laws.{stored-some, size-small, tells-rows}
 use Rattle.compiler.proofs.many_rows.Statement.{statement}
 use Rattle.compiler.proofs.many_rows.Tie as tie
 
 root-requires : tie.Need-root-requires
-root-requires c κs = holds-some (c .before .pre)
+root-requires c κs = stored-some (c .before .pre)
 
 add-result : tie.Need-add-result
 add-result c =

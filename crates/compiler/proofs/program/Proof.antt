@@ -13,8 +13,8 @@ emit-requires : tie.Need-emit-requires
 emit-requires c κs =
     let shaped = c .before .before .before .before in
     let few = shaped .before .before in
-    shaped-tabled (few .before .many-rows .ensures) (few .if1 .left) (search needs) (shaped .shape .ensures)
-    (few .before .before .before .before .before .pre)
+    let start = few .before .before .before .before .before in
+    shaped-tabled (few .before .many-rows .ensures) (few .if1 .left) (search needs) (shaped .shape .ensures) (start .pre)
 
 returns-2 : tie.Need-returns-2
 returns-2 c =

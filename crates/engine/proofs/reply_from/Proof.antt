@@ -4,7 +4,8 @@ use native.Mathlib.Omega.{arith}
 use borrow.Author.Needs.{needs}
 use mathlib.Core.Bool.{true, false}
 use Rattle.running_moves.specs.Ready.{ready}
-use Rattle.engine.specs.Laws.{text-small, allowed, refused-answer, ran-answer, with-registers}
+use Rattle.machine.specs.Allowed.{allowed}
+use Rattle.engine.specs.Laws.{text-small, refused-answer, ran-answer, with-registers}
 use Rattle.engine.proofs.reply_from.Statement.{statement}
 use Rattle.engine.proofs.reply_from.Tie as tie
 

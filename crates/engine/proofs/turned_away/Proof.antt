@@ -5,7 +5,8 @@ use borrow.Author.Needs.{needs}
 use borrow.Author.Tests.{not-false, lt-ltb, le-ltb}
 use Rattle.meaning.specs.Refusals as No
 use Rattle.running_moves.specs.Ready.{ready}
-use Rattle.engine.specs.Laws.{turned, words-few}
+use Rattle.machine.specs.Allowed.{turned}
+use Rattle.engine.specs.Laws.{words-few}
 use Rattle.engine.proofs.turned_away.Statement.{statement}
 use Rattle.engine.proofs.turned_away.Tie as tie
 

@@ -8,12 +8,6 @@ use borrow.Author.Needs.{needs}
 use Rattle.host.proofs.compile_lent.Statement.{statement}
 use Rattle.host.proofs.compile_lent.Tie as tie
 
-lent-words-requires : tie.Need-lent-words-requires
-lent-words-requires c κs = search needs
-
-array-borrow-prefix-inside : tie.Need-array-borrow-prefix-inside
-array-borrow-prefix-inside c = search needs
-
 slice-aggregate-words : tie.Need-slice-aggregate-words
 slice-aggregate-words c =
     let n = c .before .lent-words in
@@ -24,12 +18,6 @@ load-words-requires c κs =
     let n = c .before .before .before .lent-words in
     omega (arith, n .ensures, first-of {A = ℕ} (n .result) codeSize 0 (omega (arith, n .ensures)))
 
-slice-aggregate-code-for : tie.Need-slice-aggregate-code-for
-slice-aggregate-code-for c = search needs
-
-code-for-requires : tie.Need-code-for-requires
-code-for-requires c κs = search needs
-
 store-words-requires : tie.Need-store-words-requires
 store-words-requires c κs =
     let made = c .before .before .before .before .before in
@@ -38,12 +26,6 @@ store-words-requires c κs =
     let same = made .code-for .kept .1 .1 .1 .0 in
     let long = loaded .load-words .kept .1 .0 in
     omega (arith, n .ensures, first-of {A = ℕ} (n .result) codeSize 0 (omega (arith, n .ensures)))
-
-compiled-numbers-requires : tie.Need-compiled-numbers-requires
-compiled-numbers-requires c κs = search needs
-
-same-length : tie.Need-same-length
-same-length c = search needs
 
 returns : tie.Need-returns
 returns c =
@@ -60,14 +42,5 @@ returns c =
 pub compile-lent-spec : {M : Type 1} → statement M
 compile-lent-spec =
     tie.close
-    (tie.spec
-    lent-words-requires
-    array-borrow-prefix-inside
-    slice-aggregate-words
-    load-words-requires
-    slice-aggregate-code-for
-    code-for-requires
-    store-words-requires
-    compiled-numbers-requires
-    same-length
-    returns)
+    (tie.spec (λ c κs. search needs) (λ c. search needs) slice-aggregate-words load-words-requires (λ c. search needs)
+    (λ c κs. search needs) store-words-requires (λ c κs. search needs) (λ c. search needs) returns)

@@ -1,36 +1,19 @@
 -- Each case of the answer has its numbers.
 use mathlib.Core.Path.{sym, ap}
-use Rattle.engine.specs.Answers.{replyOf}
-use Rattle.host.specs.Surface.{ranNumbers}
 use borrow.Author.Needs.{needs}
+use Rattle.millkettle.specs.Calls.Answers.{replyOf}
+use Rattle.host.specs.Surface.{ranNumbers}
 use Rattle.host.proofs.ran_numbers.Statement.{statement}
 use Rattle.host.proofs.ran_numbers.Tie as tie
 
-enum-known-answer : tie.Need-enum-known-answer
-enum-known-answer c = search needs
+found : tie.Need-returns
+found c = sym (ap (λ x. ranNumbers (replyOf x)) (c .before .answer .given .1))
 
-enum-known-answer-2 : tie.Need-enum-known-answer-2
-enum-known-answer-2 c = search needs
+missing : tie.Need-returns-2
+missing c = sym (ap (λ x. ranNumbers (replyOf x)) (c .before .answer2 .given .1))
 
-enum-known-answer-3 : tie.Need-enum-known-answer-3
-enum-known-answer-3 c = search needs
-
-returns : tie.Need-returns
-returns c = sym (ap (λ x. ranNumbers (replyOf x)) (c .before .answer .given .1))
-
-returns-2 : tie.Need-returns-2
-returns-2 c = sym (ap (λ x. ranNumbers (replyOf x)) (c .before .answer2 .given .1))
-
-returns-3 : tie.Need-returns-3
-returns-3 c = sym (ap (λ x. ranNumbers (replyOf x)) (c .before .answer3 .given .1))
+refused : tie.Need-returns-3
+refused c = sym (ap (λ x. ranNumbers (replyOf x)) (c .before .answer3 .given .1))
 
 pub ran-numbers-spec : {M : Type 1} → statement M
-ran-numbers-spec =
-    tie.close
-    (tie.spec
-    enum-known-answer
-    enum-known-answer-2
-    enum-known-answer-3
-    returns
-    returns-2
-    returns-3)
+ran-numbers-spec = tie.close (tie.spec (λ c. search needs) (λ c. search needs) (λ c. search needs) found missing refused)

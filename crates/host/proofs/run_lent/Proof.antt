@@ -6,22 +6,15 @@ use lib.IntN.{ℤ, pos}
 use lib.ListN.{length, length-replicate}
 use Rattle.reading_atoms.specs.Places.{bytes-of}
 use Rattle.meaning.specs.Limits.{codeSize, workspaceSize}
-use Rattle.host.specs.Sizes.{registerCount}
-use Rattle.host.specs.Surface.{lentWords}
+use Rattle.host.specs.Surface.{registerCount, lentWords}
 use Rattle.host.specs.Laws.{first-of, turns-away, runs-bytes}
 use borrow.Author.Needs.{needs}
 use Rattle.host.proofs.run_lent.Statement.{statement}
 use Rattle.host.proofs.run_lent.Tie as tie
 
-ran-numbers-requires : tie.Need-ran-numbers-requires
-ran-numbers-requires c κs = search needs
-
 returns : tie.Need-returns
 returns c =
     turns-away _ _ _ _ _ (bytes-of _ (c .before .before .slice-known .given)) (c .before .if1 .taken) (c .ran-numbers .ensures)
-
-array-borrow-prefix-inside : tie.Need-array-borrow-prefix-inside
-array-borrow-prefix-inside c = search needs
 
 slice-aggregate-words : tie.Need-slice-aggregate-words
 slice-aggregate-words c = sym (first-of {A = ℕ} _ codeSize 0 (omega arith))
@@ -30,12 +23,6 @@ load-words-requires : tie.Need-load-words-requires
 load-words-requires c κs =
     let n = lentWords (length (c .before .before .before .before .before .before .args .code .now)) in
     omega (arith, first-of {A = ℕ} n codeSize 0 (omega arith))
-
-lent-words-requires : tie.Need-lent-words-requires
-lent-words-requires c κs = search needs
-
-array-borrow-prefix-slots : tie.Need-array-borrow-prefix-slots
-array-borrow-prefix-slots c = search needs
 
 slice-aggregate-spans : tie.Need-slice-aggregate-spans
 slice-aggregate-spans c =
@@ -47,12 +34,6 @@ load-ints-requires c κs =
     let n = c .before .before .before .lent-words in
     omega (arith, n .ensures, first-of {A = ℤ} (n .result) registerCount (pos 0) (omega (arith, n .ensures)))
 
-slice-aggregate-answer-from : tie.Need-slice-aggregate-answer-from
-slice-aggregate-answer-from c = search needs
-
-answer-from-requires : tie.Need-answer-from-requires
-answer-from-requires c κs = search needs
-
 store-ints-requires : tie.Need-store-ints-requires
 store-ints-requires c κs =
     let ran = c .before .before .before .before .before in
@@ -61,12 +42,6 @@ store-ints-requires c κs =
     let same = ran .answer-from .kept .1 .1 .1 .1 .0 in
     let long = loaded .load-ints .kept .1 .0 in
     omega (arith, n .ensures, first-of {A = ℤ} (n .result) registerCount (pos 0) (omega (arith, n .ensures)))
-
-ran-numbers-requires-2 : tie.Need-ran-numbers-requires-2
-ran-numbers-requires-2 c κs = search needs
-
-same-length : tie.Need-same-length
-same-length c = search needs
 
 returns-2 : tie.Need-returns-2
 returns-2 c =
@@ -88,19 +63,6 @@ returns-2 c =
 pub run-lent-spec : {M : Type 1} → statement M
 run-lent-spec =
     tie.close
-    (tie.spec
-    ran-numbers-requires
-    returns
-    array-borrow-prefix-inside
-    slice-aggregate-words
-    load-words-requires
-    lent-words-requires
-    array-borrow-prefix-slots
-    slice-aggregate-spans
-    load-ints-requires
-    slice-aggregate-answer-from
-    answer-from-requires
-    store-ints-requires
-    ran-numbers-requires-2
-    same-length
-    returns-2)
+    (tie.spec (λ c κs. search needs) returns (λ c. search needs) slice-aggregate-words load-words-requires
+    (λ c κs. search needs) (λ c. search needs) slice-aggregate-spans load-ints-requires (λ c. search needs)
+    (λ c κs. search needs) store-ints-requires (λ c κs. search needs) (λ c. search needs) returns-2)

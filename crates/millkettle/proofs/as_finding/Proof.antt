@@ -5,15 +5,14 @@ use Rattle.millkettle.specs.Finding.{findingOf}
 use Rattle.millkettle.proofs.as_finding.Statement.{statement}
 use Rattle.millkettle.proofs.as_finding.Tie as tie
 
-returns : tie.Need-returns
-returns c = sym (ap findingOf (c .before .answer .given .1))
+found : tie.Need-returns
+found c = sym (ap findingOf (c .before .answer .given .1))
 
-returns-2 : tie.Need-returns-2
-returns-2 c = sym (ap findingOf (c .before .answer2 .given .1))
+missing : tie.Need-returns-2
+missing c = sym (ap findingOf (c .before .answer2 .given .1))
 
-returns-3 : tie.Need-returns-3
-returns-3 c = sym (ap findingOf (c .before .answer3 .given .1))
+refused : tie.Need-returns-3
+refused c = sym (ap findingOf (c .before .answer3 .given .1))
 
 pub as-finding-spec : {M : Type 1} → statement M
-as-finding-spec =
-    tie.close (tie.spec (λ c. search needs) (λ c. search needs) (λ c. search needs) returns returns-2 returns-3)
+as-finding-spec = tie.close (tie.spec (λ c. search needs) (λ c. search needs) (λ c. search needs) found missing refused)

@@ -1,0 +1,7 @@
+-- What callers name of the calls' promises and answers, whichever crate it comes from.
+pub use Rattle.compiler.specs.Compiling
+pub use Rattle.compiler.specs.declared.Compilation.{Compilation}
+pub use Rattle.compiler.specs.declared.Compilation.the-variants as Compilation
+pub use Rattle.engine.specs.Answers
+pub use Rattle.engine.specs.declared.Answer.{Answer}
+pub use Rattle.engine.specs.declared.Answer.the-variants as Answer
