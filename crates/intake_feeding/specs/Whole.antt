@@ -16,6 +16,7 @@ use Rattle.compiler.specs.declared.Compilation.the-variants.{Rows, Refused}
 use Rattle.intake_report.specs.Lines.{linesOf, onFirst}
 use Rattle.intake_lines.specs.Intake.{lineLimit}
 use Rattle.meaning.specs.Limits.{tableSize, codeSize}
+use Rattle.meaning.specs.Refusals as No
 use Rattle.intake_lines.specs.Intake.{lineFor, linesFor, compiled, codeFrom, patternLine, outputFor, intakeOutput}
 use Rattle.intake_lines.specs.Ended.{phaseFor, phaseThen, codeThen, textThen}
 use Rattle.intake_lines.specs.Laws.{too-long}
@@ -58,7 +59,7 @@ kept-same f long line = by (leb (length line) keptLimit) refl
         long (keptOf line) line (omega (arith, length-take-le keptLimit line (omega arith))) (omega arith)
 
 -- A pattern line too long is refused, as any pattern over the limit is.
-reading-long : (s : List ℕ) → lineLimit < length s → reading s tableSize ≡ refused 1 0
+reading-long : (s : List ℕ) → lineLimit < length s → reading s tableSize ≡ refused No.longPattern 0
 unfolding reading
 reading-long s h = rw (lt-ltb patternLimit (length s) (omega arith))
 

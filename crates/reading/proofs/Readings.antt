@@ -12,6 +12,7 @@ use mir.Val.{Fits}
 use Rattle.meaning.specs.Bytes.{Bytes}
 use Rattle.meaning.specs.Limits.{patternLimit, tableWords, depthLimit, groupLimit}
 use Rattle.meaning.specs.Node.{Node}
+use Rattle.meaning.specs.Refusals as No
 use Rattle.table.specs.Table.{recordWords, recordCount, records}
 use Rattle.table.specs.Stands.{Stands}
 use Rattle.reading_items.specs.Reading.{Part.part, Part.turned, alternativesAt, Reading, Reading.pattern, Reading.refused, whole}
@@ -33,11 +34,11 @@ reads {s} {table} x e f g = record { answer-is = f ∙ ap answerOf (sym e); tabl
 module _ {s table : List ℕ} where
   pub too-long : patternLimit < length s → Reads s table table (Turned 1 0)
   unfolding reading
-  too-long h = reads (refused 1 0) (rw (lt-ltb patternLimit (length s) h)) refl refl
+  too-long h = reads (refused No.longPattern 0) (rw (lt-ltb patternLimit (length s) h)) refl refl
 
   pub too-small : length s ≤ patternLimit → length table < tableWords (length s) → Reads s table table (Turned 2 0)
   unfolding reading
-  too-small h k = reads (refused 2 0) (rw (
+  too-small h k = reads (refused No.smallTable 0) (rw (
     le-ltb patternLimit (length s) h,
     lt-ltb (length table)
         (tableWords (length s)) k,
@@ -48,7 +49,7 @@ module _ {s table : List ℕ} where
       → Reads s table table (Turned 3 high)
   unfolding reading
   too-high h k e l =
-      rw e (reads (refused 3 (firstHigh s))
+      rw e (reads (refused No.highByte (firstHigh s))
       (rw (
         le-ltb patternLimit (length s) h,
         le-ltb (length table) (tableWords (length s)) k,
@@ -103,7 +104,7 @@ module _ {s table : List ℕ} (c : Checked s table) where
         → table″ ≡ take 0 table′ ++ replicate (length table′ - 0) 0
         → Reads s table table″ (Turned 11 at)
     unmatched h k e =
-        reads (refused 11 at) (is-whole ∙ ap (whole s) (p .read) ∙ rw (lt-ltb at (length s) h)) refl
+        reads (refused No.unmatched at) (is-whole ∙ ap (whole s) (p .read) ∙ rw (lt-ltb at (length s) h)) refl
         (zeros table′ {number = 11} (omega arith) k e)
 
     pub reads-pattern : {table″ : List ℕ} → length s ≤ at → length table′ ≡ length table

@@ -11,6 +11,7 @@ use borrow.Author.Tests.{eqb-true, ltb-true, ltb-false, lt-ltb, ne-eqb}
 use Rattle.sets.specs.Sets.{isDigit}
 use Rattle.meaning.specs.Limits.{countLimit, noMaximum}
 use Rattle.meaning.specs.Node.{Within}
+use Rattle.meaning.specs.Refusals as No
 use Rattle.reading_atoms.specs.Chars.{byteAt, choose, star, plus, question, openBrace, closeBrace, comma}
 use Rattle.reading_atoms.specs.Braces.{Braces, Braces.counts, Braces.refused, Number, numberGo, numberAt}
 use Rattle.reading_atoms.specs.Braces.{judged, unlimited, afterComma, bracesAt}
@@ -130,16 +131,17 @@ capped-same f rest above v = go (ltb countLimit v) refl
 
 pub judged-maximum : (m v end : ℕ) → judged m (min v noMaximum) end ≡ judged m v end
 judged-maximum m v end =
-    capped-same (λ x. judged m x end) (refused 8) (λ x h. rw (lt-ltb countLimit x h, or-true)) v
+    capped-same (λ x. judged m x end) (refused No.highCount) (λ x h. rw (lt-ltb countLimit x h, or-true)) v
 
 pub judged-both : (v end : ℕ) → judged (min v noMaximum) (min v noMaximum) end ≡ judged v v end
-judged-both v end = capped-same (λ x. judged x x end) (refused 8) (λ x h. rw (lt-ltb countLimit x h)) v
+judged-both v end = capped-same (λ x. judged x x end) (refused No.highCount) (λ x h. rw (lt-ltb countLimit x h)) v
 
 pub comma-minimum : (s : List ℕ) (v at : ℕ) → afterComma s (min v noMaximum) at ≡ afterComma s v at
 comma-minimum s v at =
     let closed = eqb (byteAt s (numberAt s at .end)) closeBrace in
     capped-same (λ x. afterComma s x at)
-    (cond (eqb (byteAt s at) closeBrace) (refused 8) (cond (isDigit (byteAt s at) && closed) (refused 8) (refused 7)))
+    (cond (eqb (byteAt s at) closeBrace) (refused No.highCount)
+    (cond (isDigit (byteAt s at) && closed) (refused No.highCount) (refused No.badBraces)))
     (λ x h. rw (lt-ltb countLimit x h)) v
 
 -- What the digits have come to: the rest of their reading is the whole's, with fuel for every byte that is left, and the value

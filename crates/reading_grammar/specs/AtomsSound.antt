@@ -8,6 +8,7 @@ use lib.Dec.{eqb}
 use borrow.Author.Tests.{eqb-true, eqb-false, ne-eqb}
 use Rattle.sets.specs.Sets.{isDigit, isWord}
 use Rattle.meaning.specs.Tests.{and-true, by-test}
+use Rattle.meaning.specs.Refusals as No
 use Rattle.reading_atoms.specs.Chars.{noByte, byteAt, backslash, isLetter, isHex}
 use Rattle.reading_atoms.specs.Escapes.{Escape, Escape.byte, Escape.named, Escape.assertion, Escape.wrong, control, setNumber}
 use Rattle.reading_atoms.specs.Escapes.{letterEscape, hexEscape, zeroEscape, escapeAt}
@@ -57,7 +58,7 @@ module _ (inClass : Bool) (s : List ℕ) (a : ℕ) where
   Means (byte b end) = EscapedByte s inClass a end b
   Means (named k) = EscapedSet s a k
   Means (assertion k) = (inClass ≡ false) × (((k ≡ 2) × Is s (a + 1) 0x62) ⊎ ((k ≡ 3) × Is s (a + 1) 0x42))
-  Means (wrong number) = (number ≡ 4) ⊎ ((number ≡ 5) × LeftOut s inClass a)
+  Means (wrong number) = (number ≡ No.badEscape) ⊎ ((number ≡ No.leftOut) × LeftOut s inClass a)
 
   pub escape-sound : Is s a backslash → Means (escapeAt inClass s a)
   unfolding escapeAt

@@ -8,6 +8,7 @@ use native.Mathlib.Omega.{arith}
 use lib.ListN.{length, List·getD-eq-default}
 use borrow.Author.Tests.{eq-eqb, ne-eqb, lt-leb}
 use Rattle.meaning.specs.Limits.{depthLimit}
+use Rattle.meaning.specs.Refusals as No
 use Rattle.reading_atoms.specs.Chars.{noByte, byteAt, caret, backslash, openBracket, closeBracket, endsSequence}
 use Rattle.reading_atoms.specs.Classes.{ClassAtom.bad, classAtom, Class, Class.broken, classItem, classGo, classAt}
 use Rattle.reading_items.specs.Reading.{Part.turned, Opening, Part, itemBy, alternativesAt, Reading.refused, whole}
@@ -110,13 +111,13 @@ module _ (s : List ℕ) where
   bad-range (set {a = a} t) d (set t′) right held = rw (set-atom s t, begins s (a + 2) d, set-atom s t′)
 
   pub bad-range-whole : {a b e : ℕ} {x y : Option ℕ} → ClassDue s a → End s a b x → Dash s b → End s (b + 1) e y → BadRange x y
-      → whole s (alternativesAt depthLimit s 0 0) ≡ refused 10 a
+      → whole s (alternativesAt depthLimit s 0 0) ≡ refused No.badClass a
   bad-range-whole {a} t x d y r =
       let (u, v) = end-first x in
       item-whole t 10 a u v (bad-range x d y r)
 
   -- A class that is unclosed.
-  pub unclosed-whole : {a : ℕ} → ClassDue s a → a ≡ length s → whole s (alternativesAt depthLimit s 0 0) ≡ refused 10 a
+  pub unclosed-whole : {a : ℕ} → ClassDue s a → a ≡ length s → whole s (alternativesAt depthLimit s 0 0) ≡ refused No.badClass a
   unfolding classGo
   unclosed-whole {a} t e = class-whole t 10 a go
     where

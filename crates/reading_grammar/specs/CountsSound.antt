@@ -10,6 +10,7 @@ use lib.Dec.{eqb, ltb}
 use borrow.Author.Tests.{eqb-true, eqb-false, ltb-false, ltb-true}
 use Rattle.meaning.specs.Limits.{countLimit}
 use Rattle.meaning.specs.Tests.{by-test}
+use Rattle.meaning.specs.Refusals as No
 use Rattle.reading_atoms.specs.Chars.{byteAt, star, plus, question, openBrace, isQuantifier}
 use Rattle.reading_atoms.specs.Braces.{Braces, Braces.counts, Braces.refused, judged, bracesAt, Quantifier, Quantifier.once}
 use Rattle.reading_atoms.specs.Braces.{Quantifier.repeated, Quantifier.miscounted, lazily, quantifierAt}
@@ -54,7 +55,7 @@ module _ (s : List ℕ) where
     braces-sound : Is s a openBrace → Counted (bracesAt s a)
     braces-sound at = go (form-sound s a at)
       where
-        go : (bracesAt s a ≡ refused 7) ⊎ Formed s a → Counted (bracesAt s a)
+        go : (bracesAt s a ≡ refused No.badBraces) ⊎ Formed s a → Counted (bracesAt s a)
         go (inl e) = rw e (Refuses.noForm atom at (λ b n m form. not-seven n b m (sym (form-read s form) ∙ e)))
         go (inr (e, n, m, form)) = rw (form-read s form) (form-counted form)
 

@@ -12,6 +12,7 @@ use borrow.Author.Tests.{eqb-true, eq-eqb, ne-eqb, lt-ltb}
 use Rattle.sets.specs.Sets.{isDigit}
 use Rattle.meaning.specs.Limits.{countLimit}
 use Rattle.meaning.specs.Tests.{and-true, by-test}
+use Rattle.meaning.specs.Refusals as No
 use Rattle.reading_atoms.specs.Chars.{byteAt, openBrace, closeBrace, comma}
 use Rattle.reading_atoms.specs.Braces.{Braces, Braces.refused, Number, numberGo, numberAt, judged, unlimited, bracesAt}
 use Rattle.reading_items.specs.Facts.{byte-within}
@@ -127,7 +128,7 @@ module _ (s : List ℕ) where
   Formed a = (e : ℕ) × (n : ℕ) × (m : Option ℕ) × Form s a e n m
 
   abbrev Said : ℕ → Braces → Type 0
-  Said a x = (x ≡ refused 7) ⊎ Formed a
+  Said a x = (x ≡ refused No.badBraces) ⊎ Formed a
 
   pub form-sound : (a : ℕ) → Is s a openBrace → Said a (bracesAt s a)
   unfolding bracesAt
@@ -155,22 +156,23 @@ module _ (s : List ℕ) where
       (λ _. inl refl)
 
 -- Judged counts are never refused as 7; a count above the limit is 8; n greater than m is 9, or 8.
-pub not-seven : (n e : ℕ) (m : Option ℕ) → judges n m e ≡ refused 7 → ⊥
+pub not-seven : (n e : ℕ) (m : Option ℕ) → judges n m e ≡ refused No.badBraces → ⊥
 not-seven n e none =
-    by-test (λ x. x ≡ refused 7 → ⊥) (ltb countLimit n) (λ _ f. let z : _≡_ {A = ℕ} 8 7 = cc in omega arith)
-    (λ _ f. let z : _≡_ {A = ℕ} 8 7 = cc in omega arith)
+    by-test (λ x. x ≡ refused No.badBraces → ⊥) (ltb countLimit n)
+    (λ _ f. let z : _≡_ {A = ℕ} No.highCount No.badBraces = cc in omega arith)
+    (λ _ f. let z : _≡_ {A = ℕ} No.highCount No.badBraces = cc in omega arith)
 not-seven n e (some m) =
-    by-test (λ x. x ≡ refused 7 → ⊥) (ltb countLimit n || ltb countLimit m)
-    (λ _ f. let z : _≡_ {A = ℕ} 8 7 = cc in omega arith) (λ _.
-    by-test (λ x. x ≡ refused 7 → ⊥) (ltb m n) (λ _ f. let z : _≡_ {A = ℕ} 8 7 = cc in omega arith)
-    (λ _ f. let z : _≡_ {A = ℕ} 8 7 = cc in omega arith))
+    by-test (λ x. x ≡ refused No.badBraces → ⊥) (ltb countLimit n || ltb countLimit m)
+    (λ _ f. let z : _≡_ {A = ℕ} No.highCount No.badBraces = cc in omega arith) (λ _.
+    by-test (λ x. x ≡ refused No.badBraces → ⊥) (ltb m n) (λ _ f. let z : _≡_ {A = ℕ} No.highCount No.badBraces = cc in omega arith)
+    (λ _ f. let z : _≡_ {A = ℕ} No.highCount No.badBraces = cc in omega arith))
 
-pub above-eight : (n e : ℕ) (m : Option ℕ) → Above n m → judges n m e ≡ refused 8
+pub above-eight : (n e : ℕ) (m : Option ℕ) → Above n m → judges n m e ≡ refused No.highCount
 above-eight n e none (Above.least l) = rw (lt-ltb countLimit n l)
 above-eight n e (some m) (Above.least l) = rw (lt-ltb countLimit n l)
 above-eight n e (some m) (Above.most l) = rw (lt-ltb countLimit m l, or-true)
 
-pub disordered-nine : (n m e : ℕ) → m < n → (judged n m e ≡ refused 8) ⊎ (judged n m e ≡ refused 9)
+pub disordered-nine : (n m e : ℕ) → m < n → (judged n m e ≡ refused No.highCount) ⊎ (judged n m e ≡ refused No.reversedCounts)
 disordered-nine n m e l =
-    by-test (λ x. (x ≡ refused 8) ⊎ (x ≡ refused 9)) (ltb countLimit n || ltb countLimit m) (λ _. inl refl)
+    by-test (λ x. (x ≡ refused No.highCount) ⊎ (x ≡ refused No.reversedCounts)) (ltb countLimit n || ltb countLimit m) (λ _. inl refl)
     (λ _. inr (rw (lt-ltb m n l)))

@@ -7,6 +7,7 @@ use Prim.Native.Nat.{ℕ, _+_}
 use lib.Dec.{eqb}
 use borrow.Author.Tests.{eqb-true, eqb-false}
 use Rattle.meaning.specs.Tests.{by-test}
+use Rattle.meaning.specs.Refusals as No
 use Rattle.reading_atoms.specs.Chars.{byteAt, question, colon}
 use Rattle.reading_items.specs.Reading.{Opening, Opening.capturing, Opening.plain, Opening.neither, isLook, openingAt}
 use Rattle.reading_grammar.specs.Atoms.{Is}
@@ -17,8 +18,8 @@ module _ (s : List ℕ) where
   OpeningMeans a capturing = Is s (a + 1) question → ⊥
   OpeningMeans a plain = Is s (a + 1) question × Is s (a + 2) colon
   OpeningMeans a (neither number place) =
-      Is s (a + 1) question × (((number ≡ 5) × (place ≡ a) × (isLook (byteAt s (a + 2)) ≡ true))
-      ⊎ ((number ≡ 6) × (place ≡ a + 1) × (Is s (a + 2) colon → ⊥) × (isLook (byteAt s (a + 2)) ≡ false)))
+      Is s (a + 1) question × (((number ≡ No.leftOut) × (place ≡ a) × (isLook (byteAt s (a + 2)) ≡ true))
+      ⊎ ((number ≡ No.noAtom) × (place ≡ a + 1) × (Is s (a + 2) colon → ⊥) × (isLook (byteAt s (a + 2)) ≡ false)))
 
   pub opening-sound : (a : ℕ) → OpeningMeans a (openingAt s a)
   unfolding openingAt

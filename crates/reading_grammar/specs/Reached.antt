@@ -9,6 +9,7 @@ use borrow.Author.Tests.{ne-eqb, lt-leb, lt-ltb}
 use Rattle.meaning.specs.Limits.{depthLimit, groupLimit}
 use Rattle.meaning.specs.Node.{Node, Node.group}
 use Rattle.meaning.specs.Flat.{Kind, parts, join}
+use Rattle.meaning.specs.Refusals as No
 use Rattle.reading_atoms.specs.Chars.{byteAt, question, openParen, closeParen, bar, colon, endsSequence}
 use Rattle.reading_items.specs.Reading.{Part, Part.part, Part.turned, andThen, closed, openingAt, itemBy, sequenceGo}
 use Rattle.reading_items.specs.Reading.{alternativesGo}
@@ -29,9 +30,9 @@ module _ (s : List ℕ) where
   -- What the alternatives at a depth come to where they are refused: by themselves; unclosed; or unmatched at the outermost.
   pub data Fails (d number place : ℕ) : Part → Type 0 where
     turns : Fails d number place (turned number place)
-    unclosed : {r : Node} {h : ℕ} → number ≡ 11 → d < depthLimit → (Is s place closeParen → ⊥)
+    unclosed : {r : Node} {h : ℕ} → number ≡ No.unmatched → d < depthLimit → (Is s place closeParen → ⊥)
         → Fails d number place (part r place h)
-    unmatched : {r : Node} {h : ℕ} → number ≡ 11 → d ≡ depthLimit → place < length s → Fails d number place (part r place h)
+    unmatched : {r : Node} {h : ℕ} → number ≡ No.unmatched → d ≡ depthLimit → place < length s → Fails d number place (part r place h)
 
   -- Then the whole is refused so, or the item around them.
   whole-fails : {number place : ℕ} {p : Part} → Fails depthLimit number place p → whole s p ≡ refused number place

@@ -18,6 +18,7 @@ use Rattle.meaning.specs.Flat.{Kind, Kind.sequence, Kind.alternation, Flat, par
 use Rattle.meaning.specs.Numbering.{Numbers}
 use Rattle.table.specs.Table.{recordsIn, recordCount}
 use Rattle.meaning.specs.All.{All, all-append}
+use Rattle.meaning.specs.Refusals as No
 use Rattle.table.specs.Laws.{countAll, count-append}
 use Rattle.reading_atoms.specs.Chars.{noByte, byteAt, choose, caret, dollar, dot, backslash, openParen, closeParen, openBracket}
 use Rattle.reading_atoms.specs.Chars.{closeBracket, closeBrace}
@@ -349,7 +350,7 @@ module _ (s : List ℕ) (laws : AtomLaws s) where
         fewRecords = omega (arith, row .few, row .kept .within);
       }
 
-      go : (t : Bool) → ltb at (length s) ≡ t → cond t (refused 11 at) (pattern q h) ≡ pattern r g → Read r g
+      go : (t : Bool) → ltb at (length s) ≡ t → cond t (refused No.unmatched at) (pattern q h) ≡ pattern r g → Read r g
       go true e f = absurd (let z : _≡_ {A = ℕ} 0 1 = cc in omega arith)
       go false e f = let u : q ≡ r = cc in let v : h ≡ g = cc in subst₂ Read u v read
   whole-read (turned number place) ok r g = λ e. absurd (let z : _≡_ {A = ℕ} 0 1 = cc in omega arith)
@@ -366,7 +367,7 @@ module _ (s : List ℕ) (laws : AtomLaws s) where
       let all : Reading = whole s (alternativesAt depthLimit s 0 0) in
       let high : Bool = ltb (firstHigh s) (length s) in
       let short : Bool = ltb table (tableWords (length s)) in
-      let third : Reading = choose high (λ _. refused 3 (firstHigh s)) (λ _. all) in
-      let second : Reading = choose short (λ _. refused 2 0) (λ _. third) in
+      let third : Reading = choose high (λ _. refused No.highByte (firstHigh s)) (λ _. all) in
+      let second : Reading = choose short (λ _. refused No.smallTable 0) (λ _. third) in
       whole-read (alternativesAt depthLimit s 0 0) (alternatives-at depthLimit 0 0 (omega arith) (omega arith)) r g
       (chosen high 3 (firstHigh s) all r g (chosen short 2 0 third r g (chosen (ltb patternLimit (length s)) 1 0 second r g e)))
