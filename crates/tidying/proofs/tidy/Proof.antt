@@ -21,9 +21,6 @@ loop-holds c = (along-start, search needs)
 search-requires : tie.Need-search-requires Inv-loop μ-loop
 search-requires c κs = some-sought (along-some (c .before .loop .inv .0) (c .before .before .before .pre))
 
-enum-known-top : tie.Need-enum-known-top Inv-loop μ-loop
-enum-known-top c = search needs
-
 enum-told : tie.Need-enum-told Inv-loop μ-loop
 enum-told c = search needs
 
@@ -59,9 +56,6 @@ clear-requires c κs =
     let top = c .before .before .before .before .before in
     omega (arith, held-room (along-some (top .loop .inv .0) (top .before .before .pre)))
 
-same-length : tie.Need-same-length Inv-loop μ-loop
-same-length c = search needs
-
 returns : tie.Need-returns Inv-loop μ-loop
 returns c =
     let told = c .before .before .before .before in
@@ -78,12 +72,12 @@ tidy-spec =
     μ-loop
     loop-holds
     search-requires
-    enum-known-top
+    (λ c. search needs)
     enum-told
     step-requires
     loop-less
     loop-again
     mul-clear
     clear-requires
-    same-length
+    (λ c. search needs)
     returns)

@@ -6,12 +6,6 @@ use borrow.Author.Needs.{needs}
 use Rattle.tidying_fitting.proofs.start.Statement.{statement}
 use Rattle.tidying_fitting.proofs.start.Tie as tie
 
-own-requires : tie.Need-own-requires
-own-requires c κs = search needs
-
-cast-result : tie.Need-cast-result
-cast-result c = search needs
-
 sub-result : tie.Need-sub-result
 sub-result c = few-told ((c .before .own) .ensures) ((c .before .before .before) .pre)
 
@@ -19,4 +13,4 @@ returns : tie.Need-returns
 returns c = start-told ((c .before .own) .ensures) refl
 
 pub start-spec : {M : Type 1} → statement M
-start-spec = tie.close (tie.spec own-requires cast-result sub-result returns)
+start-spec = tie.close (tie.spec (λ c κs. search needs) (λ c. search needs) sub-result returns)

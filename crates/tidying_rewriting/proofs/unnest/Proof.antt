@@ -14,11 +14,8 @@ remove-requires c κs = omega (arith, inner-there (c .before .before .pre))
 sub-result : tie.Need-sub-result
 sub-result c = omega (arith, inner-there (c .before .before .before .before .before .pre))
 
-same-length : tie.Need-same-length
-same-length c = search needs
-
 returns : tie.Need-returns
 returns c = outer-left (c .before .before .remove .ensures)
 
 pub unnest-spec : {M : Type 1} → statement M
-unnest-spec = tie.close (tie.spec sub-remove remove-requires sub-result same-length returns)
+unnest-spec = tie.close (tie.spec sub-remove remove-requires sub-result (λ c. search needs) returns)

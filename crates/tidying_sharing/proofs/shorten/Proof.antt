@@ -85,9 +85,6 @@ loop-again c =
       omega arith,
     )
 
-same-length : tie.Need-same-length Inv-loop μ-loop
-same-length c = search needs
-
 returns : tie.Need-returns Inv-loop μ-loop
 returns c =
     let at = c .before in
@@ -106,5 +103,5 @@ shorten-spec =
     add-parts
     loop-less
     loop-again
-    same-length
+    (λ c. search needs)
     returns)

@@ -12,18 +12,9 @@ use borrow.Author.Needs.{needs}
 use Rattle.tidying_fitting.proofs.quantifiers.loop_of_loop.Statement.{statement}
 use Rattle.tidying_fitting.proofs.quantifiers.loop_of_loop.Tie as tie
 
-nested-requires : tie.Need-nested-requires
-nested-requires c κs = search needs
-
 returns : tie.Need-returns
 returns c = first-fails (fits t5) (isNested noMaximum) (lazyWords leb) t5-words ((c .before .nested) .ensures)
     (not-true _ (c .if1 .taken))
-
-own-requires : tie.Need-own-requires
-own-requires c κs = search needs
-
-sub-own : tie.Need-sub-own
-sub-own c = omega (arith, asked ((c .before .before .before .before) .pre))
 
 own-requires-2 : tie.Need-own-requires-2
 own-requires-2 c κs = part-asked (quantified-passed (λ r q. nestedIn noMaximum (ownOf r) (ownOf q))
@@ -39,4 +30,4 @@ returns-2 c = first-passes (fits t5) (isNested noMaximum) (lazyWords leb) t5-wor
 
 pub loop-of-loop-spec : {M : Type 1} → statement M
 loop-of-loop-spec =
-    tie.close (tie.spec nested-requires returns own-requires sub-own own-requires-2 returns-2)
+    tie.close (tie.spec (λ c κs. search needs) returns (λ c κs. search needs) (λ c. omega (arith, asked ((c .before .before .before .before) .pre))) own-requires-2 returns-2)

@@ -8,26 +8,14 @@ use Rattle.tidying_fitting.specs.Words.{nestedIn}
 use Rattle.tidying_fitting.proofs.quantifiers.nested.Statement.{statement}
 use Rattle.tidying_fitting.proofs.quantifiers.nested.Tie as tie
 
-own-requires : tie.Need-own-requires
-own-requires c κs = search needs
-
-ranges-requires : tie.Need-ranges-requires
-ranges-requires c κs = search needs
-
 returns : tie.Need-returns
 returns c = off-ranged ((c .before .before .before .before) .args .most) ((c .before .before .own) .ensures)
     (sym ((c .before .ranges) .ensures) ∙ not-true _ (c .if1 .taken))
-
-sub-own : tie.Need-sub-own
-sub-own c = omega (arith, asked ((c .before .before .before .before) .pre))
 
 own-requires-2 : tie.Need-own-requires-2
 own-requires-2 c κs = part-asked (quantified-ranged ((c .before .before .before .before) .args .most)
     ((c .before .before .own) .ensures) (sym ((c .before .ranges) .ensures) ∙ not-false _ (c .if1 .left)))
     ((c .before .before .before .before) .pre)
-
-ranges-requires-2 : tie.Need-ranges-requires-2
-ranges-requires-2 c κs = search needs
 
 returns-2 : tie.Need-returns-2
 returns-2 c = let outer = sym ((c .before .before .before .before .ranges) .ensures) ∙ not-false _
@@ -51,11 +39,11 @@ pub nested-spec : {M : Type 1} → statement M
 nested-spec =
     tie.close
     (tie.spec
-    own-requires
-    ranges-requires
+    (λ c κs. search needs)
+    (λ c κs. search needs)
     returns
-    sub-own
+    (λ c. omega (arith, asked ((c .before .before .before .before) .pre)))
     own-requires-2
-    ranges-requires-2
+    (λ c κs. search needs)
     returns-2
     returns-3)

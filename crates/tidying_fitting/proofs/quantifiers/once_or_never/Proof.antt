@@ -8,9 +8,6 @@ use borrow.Author.Needs.{needs}
 use Rattle.tidying_fitting.proofs.quantifiers.once_or_never.Statement.{statement}
 use Rattle.tidying_fitting.proofs.quantifiers.once_or_never.Tie as tie
 
-own-requires : tie.Need-own-requires
-own-requires c κs = search needs
-
 returns : tie.Need-returns
 returns c = by-record onceOrNever (fits t2) t2-words ((c .before .before .own) .ensures) (rw (ne-eqb _ _ ((c .if1) .taken)))
 
@@ -37,4 +34,4 @@ returns-4 c = by-record onceOrNever (fits t2) t2-words ((c .before .before .befo
     ))
 
 pub once-or-never-spec : {M : Type 1} → statement M
-once-or-never-spec = tie.close (tie.spec own-requires returns returns-2 returns-3 returns-4)
+once-or-never-spec = tie.close (tie.spec (λ c κs. search needs) returns returns-2 returns-3 returns-4)

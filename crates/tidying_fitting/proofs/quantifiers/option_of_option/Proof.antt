@@ -11,18 +11,9 @@ use borrow.Author.Needs.{needs}
 use Rattle.tidying_fitting.proofs.quantifiers.option_of_option.Statement.{statement}
 use Rattle.tidying_fitting.proofs.quantifiers.option_of_option.Tie as tie
 
-nested-requires : tie.Need-nested-requires
-nested-requires c κs = search needs
-
 returns : tie.Need-returns
 returns c = first-fails (fits t9) (isNested 1) (lazyWords eqb) t9-words ((c .before .nested) .ensures)
     (not-true _ (c .if1 .taken))
-
-own-requires : tie.Need-own-requires
-own-requires c κs = search needs
-
-sub-own : tie.Need-sub-own
-sub-own c = omega (arith, asked ((c .before .before .before .before) .pre))
 
 own-requires-2 : tie.Need-own-requires-2
 own-requires-2 c κs = part-asked (quantified-passed (λ r q. nestedIn 1 (ownOf r) (ownOf q))
@@ -38,4 +29,4 @@ returns-2 c = first-passes (fits t9) (isNested 1) (lazyWords eqb) t9-words
 
 pub option-of-option-spec : {M : Type 1} → statement M
 option-of-option-spec =
-    tie.close (tie.spec nested-requires returns own-requires sub-own own-requires-2 returns-2)
+    tie.close (tie.spec (λ c κs. search needs) returns (λ c κs. search needs) (λ c. omega (arith, asked ((c .before .before .before .before) .pre))) own-requires-2 returns-2)

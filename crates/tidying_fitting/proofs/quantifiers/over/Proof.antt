@@ -7,14 +7,8 @@ use borrow.Author.Needs.{needs}
 use Rattle.tidying_fitting.proofs.quantifiers.over.Statement.{statement}
 use Rattle.tidying_fitting.proofs.quantifiers.over.Tie as tie
 
-own-requires : tie.Need-own-requires
-own-requires c κs = search needs
-
 returns : tie.Need-returns
 returns c = off-kind _ ((c .before .before .own) .ensures) ((c .if1) .taken)
-
-sub-own : tie.Need-sub-own
-sub-own c = omega (arith, asked ((c .before .before .before .before) .pre))
 
 own-requires-2 : tie.Need-own-requires-2
 own-requires-2 c κs = part-asked (quantified-kind ((c .before .before .own) .ensures) ((c .if1) .left))
@@ -26,4 +20,4 @@ returns-2 c = on-quantifier (λ o i. eqb (i .kind) ((c .before .before .before .
     ((c .before .before .before .before .own) .ensures) ((c .before .own2) .ensures) refl
 
 pub over-spec : {M : Type 1} → statement M
-over-spec = tie.close (tie.spec own-requires returns sub-own own-requires-2 returns-2)
+over-spec = tie.close (tie.spec (λ c κs. search needs) returns (λ c. omega (arith, asked ((c .before .before .before .before) .pre))) own-requires-2 returns-2)

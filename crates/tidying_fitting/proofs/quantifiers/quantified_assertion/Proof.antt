@@ -8,11 +8,8 @@ use borrow.Author.Needs.{needs}
 use Rattle.tidying_fitting.proofs.quantifiers.quantified_assertion.Statement.{statement}
 use Rattle.tidying_fitting.proofs.quantifiers.quantified_assertion.Tie as tie
 
-over-requires : tie.Need-over-requires
-over-requires c κs = search needs
-
 returns : tie.Need-returns
 returns c = by-test (isOver assertionKind) (fits t4) (λ r. sym (t4-over r)) ((c .over) .ensures)
 
 pub quantified-assertion-spec : {M : Type 1} → statement M
-quantified-assertion-spec = tie.close (tie.spec over-requires returns)
+quantified-assertion-spec = tie.close (tie.spec (λ c κs. search needs) returns)

@@ -8,11 +8,8 @@ use borrow.Author.Needs.{needs}
 use Rattle.tidying_fitting.proofs.quantifiers.quantified_empty.Statement.{statement}
 use Rattle.tidying_fitting.proofs.quantifiers.quantified_empty.Tie as tie
 
-over-requires : tie.Need-over-requires
-over-requires c κs = search needs
-
 returns : tie.Need-returns
 returns c = by-test (isOver emptyKind) (fits t3) (λ r. sym (t3-over r)) ((c .over) .ensures)
 
 pub quantified-empty-spec : {M : Type 1} → statement M
-quantified-empty-spec = tie.close (tie.spec over-requires returns)
+quantified-empty-spec = tie.close (tie.spec (λ c κs. search needs) returns)

@@ -3,12 +3,6 @@ use borrow.Author.Needs.{needs}
 use Rattle.tidying_fitting.proofs.series.begins_alike.Statement.{statement}
 use Rattle.tidying_fitting.proofs.series.begins_alike.Tie as tie
 
-first-item-requires : tie.Need-first-item-requires
-first-item-requires c κs = search needs
-
-first-item-requires-2 : tie.Need-first-item-requires-2
-first-item-requires-2 c κs = search needs
-
 own-requires : tie.Need-own-requires
 own-requires c κs = first-asked ((c .before .first-item) .ensures) ((c .first-item2) .ensures)
     ((c .before .before .before) .pre .0)
@@ -36,9 +30,6 @@ last-words-requires-2 c κs = first-asked ((c .before .before .before .before .b
     ((c .before .before .before .before .before .before .before .before .first-item) .ensures)
     ((c .before .before .before .before .before .before .before .before .before .before) .pre .1)
 
-same-requires : tie.Need-same-requires
-same-requires c κs = search needs
-
 returns-3 : tie.Need-returns-3
 returns-3 c = sets-told ((c .before .before .before .before .before .before .before .before .before .before .first-item)
     .ensures) ((c .before .before .before .before .before .before .before .before .before .first-item2) .ensures)
@@ -51,13 +42,13 @@ pub begins-alike-spec : {M : Type 1} → statement M
 begins-alike-spec =
     tie.close
     (tie.spec
-    first-item-requires
-    first-item-requires-2
+    (λ c κs. search needs)
+    (λ c κs. search needs)
     own-requires
     returns
     own-requires-2
     returns-2
     last-words-requires
     last-words-requires-2
-    same-requires
+    (λ c κs. search needs)
     returns-3)

@@ -16,14 +16,8 @@ Inv-loop table top end₀ left₀ end left = (before : List ℕ) (r : Node) → 
 abbrev μ-loop : tie.MeasureT-loop
 μ-loop table top end₀ left₀ end left = left
 
-own-requires : tie.Need-own-requires Inv-loop μ-loop
-own-requires c κs = search needs
-
 returns : tie.Need-returns Inv-loop μ-loop
 returns c = first-alone ((c .before .before .own) .ensures) ((c .if1) .taken)
-
-sub-end : tie.Need-sub-end Inv-loop μ-loop
-sub-end c = omega (arith, asked ((c .before .before .before .before) .pre))
 
 loop-holds : tie.Need-loop-holds Inv-loop μ-loop
 loop-holds c = λ before r p. pass-first p ((c .before .before .own) .ensures) ((c .if1) .left)
@@ -31,12 +25,6 @@ loop-holds c = λ before r p. pass-first p ((c .before .before .own) .ensures) (
 start-requires : tie.Need-start-requires Inv-loop μ-loop
 start-requires c κs = let s = (c .before .before .before .before .before .before) .pre in turn-part
     (pass-turn ((c .before .loop) .inv (s .before) (s .part) (s .ends)) ((c .loop-test) .taken))
-
-sub-left : tie.Need-sub-left Inv-loop μ-loop
-sub-left c = search needs
-
-loop-less : tie.Need-loop-less Inv-loop μ-loop
-loop-less c = search needs
 
 loop-again : tie.Need-loop-again Inv-loop μ-loop
 loop-again c = λ before r p. pass-more ((c .before .before .loop) .inv before r p) ((c .before .loop-test) .taken)
@@ -51,12 +39,12 @@ first-item-spec =
     (tie.spec
     Inv-loop
     μ-loop
-    own-requires
+    (λ c κs. search needs)
     returns
-    sub-end
+    (λ c. omega (arith, asked ((c .before .before .before .before) .pre)))
     loop-holds
     start-requires
-    sub-left
-    loop-less
+    (λ c. search needs)
+    (λ c. search needs)
     loop-again
     returns-2)

@@ -23,9 +23,6 @@ Inv-loop table top mark end₀ left₀ found₀ end left found =
 abbrev μ-loop : tie.MeasureT-loop
 μ-loop table top mark end₀ left₀ found₀ end left found = left
 
-sub-end : tie.Need-sub-end Inv-loop μ-loop
-sub-end c = omega (arith, asked ((c .before) .pre))
-
 loop-holds : tie.Need-loop-holds Inv-loop μ-loop
 loop-holds c = λ before r p. walk-first (marks ((c .before .before) .args .mark)) p ((c .own) .ensures)
 
@@ -53,5 +50,5 @@ returns c = record { by = λ before r p. walk-over p ((c .before .loop) .inv bef
 pub leftmost-spec : {M : Type 1} → statement M
 leftmost-spec =
     tie.close
-    (tie.spec Inv-loop μ-loop sub-end (λ c κs. search needs) loop-holds marked-requires start-requires (λ c. search needs)
+    (tie.spec Inv-loop μ-loop (λ c. omega (arith, asked ((c .before) .pre))) (λ c κs. search needs) loop-holds marked-requires start-requires (λ c. search needs)
     (λ c. search needs) loop-again returns)

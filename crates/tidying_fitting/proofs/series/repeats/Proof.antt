@@ -46,12 +46,6 @@ start-requires-2 c κs = let s = (c .before .before .before .before .before .bef
     (series-asked ((c .before .before .before .loop) .inv (s .before) (s .front) (s .last) (s .series))
     ((c .before .before .loop-test) .taken))
 
-sub-left-2 : tie.Need-sub-left-2 Inv-loop μ-loop
-sub-left-2 c = search needs
-
-loop-less : tie.Need-loop-less Inv-loop μ-loop
-loop-less c = search needs
-
 loop-again : tie.Need-loop-again Inv-loop μ-loop
 loop-again c = λ before front q series. repeat-more front q series ((c .before .before .before .before .loop) .inv before front q
     series) ((c .before .before .before .loop-test) .taken) ((c .before .before .same-part) .ensures) ((c .before .if1) .left)
@@ -75,7 +69,7 @@ repeats-spec =
     same-part-requires
     returns
     start-requires-2
-    sub-left-2
-    loop-less
+    (λ c. search needs)
+    (λ c. search needs)
     loop-again
     returns-2)

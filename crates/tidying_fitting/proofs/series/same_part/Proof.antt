@@ -5,12 +5,6 @@ use borrow.Author.Needs.{needs}
 use Rattle.tidying_fitting.proofs.series.same_part.Statement.{statement}
 use Rattle.tidying_fitting.proofs.series.same_part.Tie as tie
 
-start-requires : tie.Need-start-requires
-start-requires c κs = search needs
-
-start-requires-2 : tie.Need-start-requires-2
-start-requires-2 c κs = search needs
-
 sub-records : tie.Need-sub-records
 sub-records c = starts ((c .before .before .before) .pre .0) ((c .before .start) .ensures) .few
 
@@ -65,8 +59,8 @@ pub same-part-spec : {M : Type 1} → statement M
 same-part-spec =
     tie.close
     (tie.spec
-    start-requires
-    start-requires-2
+    (λ c κs. search needs)
+    (λ c κs. search needs)
     sub-records
     sub-if1
     returns
