@@ -69,9 +69,6 @@ alike-trans h g = record {
   like = order-trans (h .like) (g .like);
 }
 
-pub alike-sym : {r q : Node} → Alike r q → Alike q r
-alike-sym h = record { numbers = sym (h .numbers); low = sym (h .low); like = order-sym (h .like) }
-
 -- Each way of making a pattern from others keeps the order.
 pub order-group : (k : ℕ) {r q : Node} → SameOrder r q → SameOrder (group k r) (group k q)
 unfolding results

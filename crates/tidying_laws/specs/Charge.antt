@@ -1,12 +1,11 @@
 -- How many records a flat pattern takes: at most two for each byte that it was read from, and one; and no law raises the bound.
 use mathlib.Core.Path.{_≡_, refl}
-use mathlib.Core.List.{List, _∷_}
 use Prim.Native.Nat.{ℕ, suc, _+_, _*_, _-_, _≤_}
 use native.Mathlib.Omega.{arith}
 use lib.ListN.{length}
 use Rattle.meaning.specs.Node.{Node, Node.empty, Node.bset, Node.assert, Node.group, Node.seq, Node.alt, Node.many}
 use Rattle.meaning.specs.Flat.{Kind, Kind.sequence, Kind.alternation, Not, pair, parts, glue, by-parts, Adds, adds-glue, Flat}
-use Rattle.tidying_laws.specs.Measures.{total, sums, weight}
+use Rattle.tidying_laws.specs.Measures.{sums, weight}
 
 -- What a pattern takes more as an item of a sequence: `(?:` and `)` around nothing or around alternatives.
 unfoldable pub extra : Node → ℕ
@@ -127,16 +126,7 @@ not-pair sequence (alt r q) h = refl
 not-pair alternation (alt r q) h = absurd h
 not-pair k (many n e lazy r) h = refl
 
--- A sequence, or an alternation, takes one record and those of its parts.
-pub records-parts : (k : Kind) (r : Node) → records r ≡ isPair k r + total records (parts k r)
-unfolding records isPair
-records-parts k = by-parts k (λ r l. records r ≡ isPair k r + total records l) (λ r h. omega (arith, not-pair k r h)) (more k)
-  where
-    more : (k : Kind) (r q : Node) (l : List Node) → records q ≡ isPair k q + total records l
-        → records (pair k r q) ≡ isPair k (pair k r q) + total records (r ∷ l)
-    more sequence r q l h = omega arith
-    more alternation r q l h = omega arith
-
+-- A pattern takes at most two records for what it is charged, and one.
 pub records-bound : (r : Node) → Flat r
     → (records r ≤ 2 * charge r + 1) × (records r - isPair sequence r ≤ 2 * cost sequence r)
 unfolding records charge extra isPair

@@ -57,12 +57,6 @@ first-at {B = B} c n (x ∷ l) i b e = by (λ e. first-at c (suc n) l i b e) (c 
           success = f ∙ ap (λ (t : ℕ × B). some (t .1)) p;
         }
 
--- Where nothing before it succeeds, an element that does is the first.
-pub at-first : {A B : Type 0} (c : A → Option B) (n : ℕ) (l m : List A) (x : A) (b : B)
-    → All (λ y. c y ≡ none) l → c x ≡ some b → firstAt c n (l ++ x ∷ m) ≡ some (n + length l, b)
-at-first c n [] m x b h e = rw e (ap (λ i. some (i, b)) (omega arith))
-at-first c n (y ∷ l) m x b h e = rw (h .0, at-first c (suc n) l m x b (h .1) e) (ap (λ i. some (i, b)) (omega arith))
-
 -- The element of a number, counted from 1; d where there is none. The first success is that of the element of its number.
 abbrev pub nth : {A : Type 0} → A → List A → ℕ → A
 nth d l k = getD (d ∷ l) k d

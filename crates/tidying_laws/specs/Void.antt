@@ -1,5 +1,5 @@
 -- The empty set: a byte set with no byte, which no byte of a text fits.
-use mathlib.Core.Path.{_≡_, refl, sym, _∙_}
+use mathlib.Core.Path.{_≡_, refl, sym}
 use mathlib.Core.Bool.{Bool, true, false, not}
 use mathlib.Core.Option.{Option}
 use mathlib.Core.List.{List, [], _∷_}
@@ -7,7 +7,7 @@ use Prim.Native.Nat.{ℕ, zero, suc, _<_}
 use lib.ListN.{getD, getElem?}
 use Rattle.sets.specs.Sets.{bit, has, Formed, below, wordOf, setOf}
 use Rattle.sets.specs.Bits.{below-at}
-use Rattle.sets.specs.Laws.{setOf-holds, formed-same}
+use Rattle.sets.specs.Laws.{setOf-holds}
 use Rattle.meaning.specs.Text.{Input, passes, fits}
 use Rattle.meaning.specs.Bytes.{Bytes}
 
@@ -35,9 +35,6 @@ void-no-bytes = refl
 pub void-formed : Formed void
 unfolding setOf wordOf
 void-formed = setOf-holds (λ b. false) .formed
-
-pub void-only : (s : List ℕ) → Formed s → noBytes s ≡ true → s ≡ void
-void-only s f e = formed-same s void f void-formed (λ b h. no-bytes s e b h ∙ sym (no-bytes void void-no-bytes b h))
 
 -- An input is fair if a set with no byte fits nowhere. The laws ask no more of the two tests.
 pub record Fair (w : Input) : Type 0 where
