@@ -1,58 +1,98 @@
 -- The three demands, over the promises of the public calls: `Compiles` of `compile` and `compile_tidied`, `Answered` of
 -- `match_at` and `search`. `Finds` of `find` is demand 2 in one definition. That every call ends, and touches only what was
 -- lent, is the toolchain's part: a function that may not end, or reaches further, is not proved.
-use mathlib.Core.Path.{_≡_, sym}
+use mathlib.Core.Path.{_≡_, refl, sym}
+use mathlib.Core.Logic.{_↔_}
 use mathlib.Core.Bool.{Bool}
 use mathlib.Core.List.{List}
 use Prim.Native.Nat.{ℕ, suc, _+_, _*_, _-_, _≤_}
 use lib.IntN.{ℤ}
 use lib.ListN.{length}
+use Rattle.meaning.specs.All.{All}
 use Rattle.meaning.specs.Bytes.{Bytes}
-use Rattle.machine.specs.Steps.{count}
+use Rattle.meaning.specs.Node.{Node}
+use Rattle.machine.specs.Steps.{count, seen, Done}
 use Rattle.machine.specs.Words.{rowsSaid}
-use Rattle.machine.specs.Replies.{lentBy, turnedAway, refusal, runOf}
+use Rattle.machine.specs.Replies.{valuesOf, lentBy, turnedAway, refusal, runOf}
+use Rattle.tidying_laws.specs.List.{becomes}
 use Rattle.compiler.specs.Compiling.{plain, tidied, Compiles}
 use Rattle.compiler.specs.declared.Compilation.{Compilation}
-use Rattle.compiler.specs.declared.Compilation.the-variants.{Rows}
+use Rattle.compiler.specs.declared.Compilation.the-variants.{Rows, Refused as Unread}
 use Rattle.engine.specs.Answers.{replyOf, executed, Answered}
 use Rattle.engine.specs.declared.Answer.{Answer}
 use Rattle.engine.specs.declared.Answer.the-variants.{Refused}
 use Rattle.millkettle.specs.Laws.{Way, rowOf}
-use Rattle.demands.specs.Runs.{bounded-rows, counted-rows, turned-rows, SomeStandard, compiled-standard}
-use Rattle.demands.specs.Tidied.{Neat, neat, outcome, same-answers}
+use Rattle.demands.specs.Patterns.{Replies, answered-exactly, Left, left-behind}
+use Rattle.demands.specs.Runs.{bounded-rows, counted-rows, turned-rows, ended-run, position-rows, stepsOf}
+use Rattle.demands.specs.Runs.{SomeStandard, compiled-standard, rows-bytes}
+use Rattle.demands.specs.Tidied.{Neat, neat, outcome, SameSpans, same-answers, SameStandard, laws-standard}
 
--- Demand 1, for any code, text, start, registers and workspace: at most two rows are executed for each row and position; the
--- count is the steps'; and a refusal is the first in order whose condition holds, and changes nothing.
+-- Demand 1, for any bytes as a pattern, and any table and code: the answer is exactly what the grammar and the table of refusals
+-- say, 1 to 14 with their places, 15 and 16 by the rows, and rows otherwise; and what a refusal leaves is by its number.
+pub demand-1-patterns : {tidying : Bool} {s table table′ code code′ : List ℕ} {answer : Compilation}
+    → Compiles tidying s table table′ code code′ answer
+    → ((x : Compilation) → (answer ≡ x) ↔ Replies tidying s (length table) (length code) x)
+    × ((k p : ℕ) → answer ≡ Unread k p → Left table table′ code code′ k)
+demand-1-patterns c = (answered-exactly c, left-behind c)
+
+-- Demand 1, for any code, text, start, registers and workspace: a refusal is the first in order whose condition holds, and
+-- changes nothing;
 pub demand-1 : {code text : List ℕ} {start row : ℕ} {registers registers′ : List ℤ} {workspace workspace′ : List ℕ} {r : Answer}
     → Answered code text start row registers workspace r registers′ workspace′
-    → (executed r ≤ 2 * rowsSaid code * (length text - start + 1))
-    × (refusal code (lentBy text start registers workspace) ≡ 0 → executed r ≡ count (runOf code text start row))
-    × ((k : ℕ) → refusal code (lentBy text start registers workspace) ≡ suc k
-    → (r ≡ Refused (suc k)) × (registers′ ≡ registers) × (workspace′ ≡ workspace))
-demand-1 a = (bounded-rows a, counted-rows a, turned-rows a)
+    → (k : ℕ) → refusal code (lentBy text start registers workspace) ≡ suc k
+    → (r ≡ Refused (suc k)) × (registers′ ≡ registers) × (workspace′ ≡ workspace)
+demand-1 a = turned-rows a
 
--- Demand 2, for any pattern that `compile` or `compile_tidied` answers with rows: matched at a start, or searched from it on,
--- its code answers what the standard's algorithm finds for the pattern that was read, or for that pattern tidied, with every
--- group's span, and none exactly if that finds nothing. It is turned away only by 21 to 24.
+-- a run that is not turned away has ended, and the count reported is the steps';
+pub demand-1-count : (way : Way) {code text : List ℕ} {start : ℕ} {registers registers′ : List ℤ} {workspace workspace′ : List ℕ}
+    {r : Answer} → Answered code text start (rowOf way) registers workspace r registers′ workspace′
+    → refusal code (lentBy text start registers workspace) ≡ 0
+    → Done (runOf code text start (rowOf way)) × (executed r ≡ count (runOf code text start (rowOf way)))
+demand-1-count way a e = (ended-run a way refl e, counted-rows a e)
+
+-- and rows executed are at most two for each row at any one position, and so for each position from the start to the end.
+pub demand-1-rows : (way : Way) {code text : List ℕ} {start : ℕ} {registers registers′ : List ℤ} {workspace workspace′ : List ℕ}
+    {r : Answer} → Answered code text start (rowOf way) registers workspace r registers′ workspace′
+    → (refusal code (lentBy text start registers workspace) ≡ 0 → (m : ℕ)
+    → length (seen (stepsOf code text start (rowOf way) m)) ≤ 2 * rowsSaid code)
+    × (executed r ≤ 2 * rowsSaid code * (length text - start + 1))
+demand-1-rows way a = (position-rows a way refl, bounded-rows a)
+
+-- The number, found or none, place and count that an answer stands for: a refusal has place 0 and count 0.
+pub demand-1-values : (k : ℕ) → valuesOf (replyOf (Refused k)) ≡ record { number = k; found = 0; place = 0; count = 0 }
+demand-1-values k = refl
+
+-- Demand 2, for any pattern that `compile` or `compile_tidied` answers with rows: it derives by the grammar, and matched at a
+-- start, or searched from it on, its code answers what the standard's algorithm finds for the pattern that was read, or for that
+-- pattern tidied, with every group's span, and none exactly if that finds nothing. It is turned away only by 21 to 24.
 pub demand-2 : (tidying : Bool) (way : Way) {s text : List ℕ} {start : ℕ} {table table′ code code′ : List ℕ}
-    {registers registers′ : List ℤ} {workspace workspace′ : List ℕ} {n g : ℕ} {answer : Answer} → Bytes s → Bytes text
+    {registers registers′ : List ℤ} {workspace workspace′ : List ℕ} {n g : ℕ} {answer : Answer} → Bytes text
     → Compiles tidying s table table′ code code′ (Rows n g)
     → Answered code′ text start (rowOf way) registers workspace answer registers′ workspace′
     → SomeStandard tidying way s table text start n g registers registers′ workspace answer
 demand-2 = compiled-standard
 
--- Demand 3, for any pattern that `compile_tidied` answers with rows: its table holds the tidied pattern, which is alike, takes
--- no more rows, and to which no law still applies;
-pub demand-3 : {s table table′ code code′ : List ℕ} {n g : ℕ} → Bytes s → Compiles tidied s table table′ code code′ (Rows n g)
-    → Neat s table code n g
-demand-3 {s} {table} {code = code} {n = n} {g = g} bytes h = neat s table code n g bytes (sym (h .answers))
+-- Demand 3: each law of the list is valid inside any surrounding pattern: whatever a part becomes by the law's words, every text
+-- is matched the same from every start, with every group;
+pub demand-3-laws : All (λ W. (r q : Node) → W r q → SameStandard r q) becomes
+demand-3-laws = laws-standard
 
--- and wherever the plain pattern has room to run, the tidied one answers the same, with every group the same.
-pub demand-3-answers : (way : Way) {s text : List ℕ} {start : ℕ} {table table′ table″ code code′ code″ : List ℕ}
-    {registers registers′ registers″ : List ℤ} {workspace workspace′ workspace″ : List ℕ} {n g : ℕ} {compiled : Compilation}
-    {r q : Answer} → Bytes s → Bytes text → Compiles plain s table table′ code code′ (Rows n g)
-    → Compiles tidied s table table″ code code″ compiled → turnedAway n g (lentBy text start registers workspace) ≡ 0
+-- for any pattern that `compile_tidied` answers with rows its table holds the tidied pattern, which is alike, takes no more rows,
+-- and to which no law still applies;
+pub demand-3 : {s table table′ code code′ : List ℕ} {n g : ℕ} → Compiles tidied s table table′ code code′ (Rows n g)
+    → Neat s table code n g
+demand-3 {s} {table} {code = code} {n = n} {g = g} h = neat s table code n g (rows-bytes h) (sym (h .answers))
+
+-- and wherever the plain pattern has room to run, the tidied one answers the same, with every group the same, in calls with
+-- buffers of their own.
+pub demand-3-answers : (way : Way) {s text : List ℕ} {start : ℕ} {table table₂ table′ table″ code code₂ code′ code″ : List ℕ}
+    {registers registers₂ registers′ registers″ : List ℤ} {workspace workspace₂ workspace′ workspace″ : List ℕ} {n g : ℕ}
+    {compiled : Compilation} {r q : Answer} → Bytes text → Compiles plain s table table′ code code′ (Rows n g)
+    → length table ≡ length table₂ → length code ≡ length code₂ → Compiles tidied s table₂ table″ code₂ code″ compiled
+    → turnedAway n g (lentBy text start registers workspace) ≡ 0
     → Answered code′ text start (rowOf way) registers workspace r registers′ workspace′
-    → Answered code″ text start (rowOf way) registers workspace q registers″ workspace″
-    → ((m : ℕ) × (compiled ≡ Rows m g) × (m ≤ n)) × (outcome (replyOf r) ≡ outcome (replyOf q)) × (registers′ ≡ registers″)
+    → length registers ≡ length registers₂ → length workspace ≡ length workspace₂
+    → Answered code″ text start (rowOf way) registers₂ workspace₂ q registers″ workspace″
+    → ((m : ℕ) × (compiled ≡ Rows m g) × (m ≤ n)) × (outcome (replyOf r) ≡ outcome (replyOf q))
+    × SameSpans g registers registers′ registers₂ registers″
 demand-3-answers = same-answers

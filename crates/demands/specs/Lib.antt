@@ -1,3 +1,4 @@
+pub mod Patterns
 pub mod Runs
 pub mod Tidied
 pub mod Demands

@@ -10,7 +10,7 @@ use Rattle.compiler.specs.Compiling.{Compiles}
 use Rattle.compiler.specs.declared.Compilation.{Compilation}
 use Rattle.engine.specs.Answers.{Answered}
 use Rattle.engine.specs.declared.Answer.{Answer}
-use Rattle.millkettle.specs.Finding.{Finds}
+use Rattle.millkettle.specs.Finding.{finding, spansLeft, Finds}
 use Rattle.millkettle.specs.declared.Finding.{Finding}
 use Rattle.host.specs.Surface.{CompilesBytes, RunsBytes}
 use Rattle.host.specs.declared.Compiled.{Compiled}
@@ -36,15 +36,17 @@ one-run {code} {text} {start} {row} {before} {r = r} {q = q} e a b = (
   a .spans ∙ ap (λ n. registersAfter code (lend text start (length before) n) row before) e ∙ sym (b .spans),
 )
 
--- Two of `find`: answer, table, code and registers.
-pub one-finding : {s text : List ℕ} {start : ℕ} {table t₁ t₂ code c₁ c₂ : List ℕ} {before r₁ r₂ : List ℤ} {w w₁ w₂ : List ℕ}
-    {a₁ a₂ : Finding} → Finds s text start table t₁ code c₁ before r₁ w w₁ a₁
-    → Finds s text start table t₂ code c₂ before r₂ w w₂ a₂ → (a₁ ≡ a₂) × (t₁ ≡ t₂) × (c₁ ≡ c₂) × (r₁ ≡ r₂)
-one-finding f g = (
-  agree (f .answers) (g .answers),
+-- Two of `find`: answer, table, code and registers, whatever their workspaces of one length held.
+pub one-finding : {s text : List ℕ} {start : ℕ} {table t₁ t₂ code c₁ c₂ : List ℕ} {before r₁ r₂ : List ℤ}
+    {work work′ left left′ : List ℕ} {a₁ a₂ : Finding}
+    → length work ≡ length work′ → Finds s text start table t₁ code c₁ before r₁ work left a₁
+    → Finds s text start table t₂ code c₂ before r₂ work′ left′ a₂ → (a₁ ≡ a₂) × (t₁ ≡ t₂) × (c₁ ≡ c₂) × (r₁ ≡ r₂)
+one-finding {s} {text} {start} {table} {code = code} {before = before} e f g = (
+  f .answers ∙ ap (λ n. finding s (length table) (length code) (lend text start (length before) n)) e ∙ sym (g .answers),
   agree (f .table-is) (g .table-is),
   agree (f .code-is) (g .code-is),
-  agree (f .spans-are) (g .spans-are),
+  f .spans-are ∙ ap (λ n. spansLeft s (length table) (length code) (lend text start (length before) n) before) e
+      ∙ sym (g .spans-are),
 )
 
 -- Two of a call on bytes: the numbers passed and the lent bytes.

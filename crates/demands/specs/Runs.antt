@@ -1,18 +1,23 @@
 -- What the promises of a run say of any code, and of code that says a pattern: the bound, the count, and the answer of the
 -- standard.
-use mathlib.Core.Path.{_≡_, refl, sym, ap, ap₂, _∙_}
+use mathlib.Core.Path.{_≡_, refl, sym, ap, ap₂, subst, _∙_}
 use mathlib.Core.Bool.{Bool}
 use mathlib.Core.Option.{Option, none, some}
-use mathlib.Core.List.{List, _++_}
-use Prim.Native.Nat.{ℕ, suc, _+_, _*_, _-_, _≤_}
+use mathlib.Core.List.{List, [], _∷_, _++_}
+use Prim.Native.Nat.{ℕ, suc, _+_, _*_, _-_, _≤_, _<_}
+use native.Mathlib.Omega.{arith}
 use lib.IntN.{ℤ}
 use lib.ListN.{length, drop}
 use Rattle.meaning.specs.Text.{Regs, registersOf}
-use Rattle.meaning.specs.Bytes.{Bytes}
+use Rattle.meaning.specs.Bytes.{Bytes, textOf}
+use Rattle.meaning.specs.Limits.{leastRows}
 use Rattle.meaning.specs.Node.{Node}
-use Rattle.machine.specs.Steps.{Machine, best, count}
-use Rattle.machine.specs.Words.{rowsSaid, groupsSaid}
-use Rattle.machine.specs.Allowed.{within}
+use Rattle.machine.specs.Steps.{Machine, best, count, seen, Done, steps, begun, firstThread, moveOf}
+use Rattle.machine.specs.Passed.{run-done, run-at-position}
+use Rattle.machine.specs.Coded.{rowsIn-length}
+use Rattle.machine.specs.Words.{rowsSaid, groupsSaid, rowsIn, decode}
+use Rattle.machine.specs.Allowed.{within, allowed}
+use Rattle.running_moves.specs.Ready.{Ready, ready}
 use Rattle.machine.specs.Replies.{Reply, Reply.found, Reply.missing, Reply.refused, valuesOf, Lent, lentBy, turnedAway, refusal}
 use Rattle.machine.specs.Replies.{runOf, answerOf, replyTo, reply, spans, registersFrom, registersAfter}
 use Rattle.reading_items.specs.Reading.{Reading.pattern, reading}
@@ -22,7 +27,10 @@ use Rattle.compiler.specs.declared.Compilation.the-variants.{Rows}
 use Rattle.engine.specs.Answers.{replyOf, executed, Answered}
 use Rattle.engine.specs.declared.Answer.{Answer}
 use Rattle.engine.specs.declared.Answer.the-variants.{Found, Missing, Refused}
-use Rattle.millkettle.specs.Laws.{Way, rowOf, standardBy, finds, conditions}
+use Rattle.millkettle.specs.Laws.{Way, Way.matching, Way.searching, rowOf, standardBy, finds, conditions}
+use Rattle.reading_grammar.specs.Grammar.{Derives}
+use Rattle.reading_grammar.specs.Sound.{Sound, sound}
+use Rattle.demands.specs.Patterns.{Replies, answered-exactly, derives, derived-bytes}
 
 -- Answers of one reply are the same, and a run's reply has its count.
 answerAs : Reply → Answer
@@ -43,6 +51,16 @@ count-of : (o : Option Regs) (n : ℕ) → valuesOf (answerOf o n) .count ≡ n
 count-of none n = refl
 count-of (some ρ) n = refl
 
+-- The machine of a run after so many steps: the run itself is the one after enough of them.
+abbrev pub stepsOf : List ℕ → List ℕ → ℕ → ℕ → ℕ → Machine
+stepsOf code text start row m =
+    steps (moveOf (textOf text) (decode code .rows)) m (begun start (firstThread (decode code) row ∷ []))
+
+-- Both ways begin at a row that any code has.
+row-few : (way : Way) → rowOf way < leastRows
+row-few matching = omega arith
+row-few searching = omega arith
+
 -- Demand 1: for any code, text, start and buffers, at most two rows are executed for each row and position,
 module _ {code text : List ℕ} {start row : ℕ} {registers registers′ : List ℤ} {workspace workspace′ : List ℕ} {r : Answer}
     (a : Answered code text start row registers workspace r registers′ workspace′) where
@@ -62,6 +80,25 @@ module _ {code text : List ℕ} {start row : ℕ} {registers registers′ : List
   -- a run that is not turned away reports the steps' count,
   pub counted-rows : refusal code lent ≡ 0 → executed r ≡ count M
   counted-rows e = ap (λ x. valuesOf x .count) (replied 0 e) ∙ count-of (best M) (count M)
+
+  -- the run that was counted has ended, and on its way no more than two rows are executed for each row at any one position,
+  module _ (way : Way) (same : row ≡ rowOf way) (e : refusal code lent ≡ 0) where
+    ready-code : Ready code
+    ready-code = ready code (allowed code lent e .passes)
+
+    row-low : row < length (rowsIn code (rowsSaid code) 0)
+    row-low = omega (arith, rowsIn-length code (rowsSaid code) 0, ready-code .least, row-few way, same)
+
+    pub ended-run : Done M
+    ended-run = run-done (decode code) (ready-code .rows) (textOf text) start row row-low (allowed code lent e .inside)
+
+    pub position-rows : (m : ℕ) → length (seen (stepsOf code text start row m)) ≤ 2 * rowsSaid code
+    position-rows m =
+        omega (
+          arith,
+          rowsIn-length code (rowsSaid code) 0,
+          run-at-position (decode code) (ready-code .rows) (textOf text) start row row-low (allowed code lent e .inside) m,
+        )
 
   -- and one that is turned away says the first number in order whose condition holds, and changes nothing.
   pub turned-rows : (k : ℕ) → refusal code lent ≡ suc k
@@ -106,17 +143,28 @@ pub record SomeStandard (tidying : Bool) (way : Way) (s table text : List ℕ) (
     (workspace : List ℕ) (answer : Answer) : Type 0 where
   pub node : Node
   pub is-read : reading s (length table) ≡ pattern node g
+  pub is-derived : Derives s node g
   pub standard : Standard way (shaped tidying node) n g text start registers registers′ workspace answer
 
+-- Code that is the same says the same.
+pub coded-as : {c d : List ℕ} {n g : ℕ} {r : Node} → c ≡ d → Coded d n g r → Coded c n g r
+coded-as e m = rw e m
+
+-- A pattern that is answered with rows is bytes.
+pub rows-bytes : {tidying : Bool} {s table table′ code code′ : List ℕ} {n g : ℕ}
+    → Compiles tidying s table table′ code code′ (Rows n g) → Bytes s
+rows-bytes {n = n} {g = g} c = derived-bytes (derives (answered-exactly c (Rows n g) .0 refl) .1)
+
 pub compiled-standard : (tidying : Bool) (way : Way) {s text : List ℕ} {start : ℕ} {table table′ code code′ : List ℕ}
-    {registers registers′ : List ℤ} {workspace workspace′ : List ℕ} {n g : ℕ} {answer : Answer} → Bytes s → Bytes text
+    {registers registers′ : List ℤ} {workspace workspace′ : List ℕ} {n g : ℕ} {answer : Answer} → Bytes text
     → Compiles tidying s table table′ code code′ (Rows n g)
     → Answered code′ text start (rowOf way) registers workspace answer registers′ workspace′
     → SomeStandard tidying way s table text start n g registers registers′ workspace answer
-compiled-standard tidying way {s} {table = table} {code = code} {n = n} {g = g} bs bt h a =
-    let m : Compiled tidying s table code n g = compiled tidying s table code n g bs (sym (h .answers)) in
+compiled-standard tidying way {s} {table = table} {code = code} {n = n} {g = g} bt h a =
+    let m : Compiled tidying s table code n g = compiled tidying s table code n g (rows-bytes h) (sym (h .answers)) in
     record {
       node = m .node;
       is-read = m .is-read;
-      standard = answers-standard way bt (rw (h .code-is) (m .is-coded)) a;
+      is-derived = subst (Sound s (length table)) (m .is-read) (sound s (length table));
+      standard = answers-standard way bt (coded-as (h .code-is) (m .is-coded)) a;
     }

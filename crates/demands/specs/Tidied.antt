@@ -1,8 +1,9 @@
 -- Demand 3, over the promises of the public calls: the tidied pattern answers as the plain one, has no more rows, and no law
 -- still applies to it.
-use mathlib.Core.Path.{_≡_, refl, sym, ap, _∙_}
+use mathlib.Core.Path.{_≡_, refl, sym, ap, ap₂, _∙_}
+use mathlib.Core.Bool.{Bool}
 use mathlib.Core.Option.{Option, none, some}
-use mathlib.Core.List.{List, _++_}
+use mathlib.Core.List.{List, [], _∷_, _++_}
 use Prim.Native.Nat.{ℕ, suc, _+_, _≤_}
 use native.Mathlib.Nat.{mul-le-mul-right}
 use native.Mathlib.Omega.{arith}
@@ -18,13 +19,14 @@ use Rattle.meaning.specs.Node.{Node}
 use Rattle.meaning.specs.Numbering.{Numbers}
 use Rattle.machine.specs.Allowed.{within}
 use Rattle.machine.specs.Replies.{Reply, Reply.found, Reply.missing, Reply.refused, Lent, lentBy, lentGrounds, turnedAway}
-use Rattle.machine.specs.Replies.{answerOf, spans}
+use Rattle.machine.specs.Replies.{lend, answerOf, spans}
 use Rattle.tidying_laws.specs.Alike.{Alike}
 use Rattle.tidying_laws.specs.Around.{Around, fill}
 use Rattle.meaning.specs.All.{All}
 use Rattle.tidying_laws.specs.Void.{fair}
 use Rattle.tidying_laws.specs.Within.{Stands}
-use Rattle.tidying_laws.specs.List.{words}
+use Rattle.tidying_laws.specs.List.{words, becomes}
+use Rattle.tidying_laws.specs.Anywhere.{SameAnywhere, laws-anywhere}
 use Rattle.tidying_laws.specs.Tidier.{tidy}
 use Rattle.tidying_laws.specs.Tidy.{tidy-alike, tidy-rows, tidy-clean, tidy-match, tidy-search}
 use Rattle.reading_items.specs.Read.{what-is-read}
@@ -38,7 +40,7 @@ use Rattle.compiler.specs.declared.Compilation.the-variants.{Rows}
 use Rattle.engine.specs.Answers.{replyOf, executed, Answered}
 use Rattle.engine.specs.declared.Answer.{Answer}
 use Rattle.millkettle.specs.Laws.{Way, Way.matching, Way.searching, rowOf, standardBy}
-use Rattle.demands.specs.Runs.{answers-standard}
+use Rattle.demands.specs.Runs.{answers-standard, coded-as, rows-bytes}
 
 -- A pattern that was compiled tidied: what it was read as, its code, and what the table holds.
 pub record Neat (s table code : List ℕ) (n g : ℕ) : Type 1 where
@@ -107,34 +109,76 @@ outcome-of : (o : Option Regs) (n m : ℕ) → outcome (answerOf o n) ≡ outcom
 outcome-of none n m = refl
 outcome-of (some ρ) n m = refl
 
--- Demand 3 of `compile`, `compile_tidied`, `match_at` and `search` together: where the plain pattern has room to run, the
--- tidied one has a program of no more rows, which finds the same, with every group the same, or nothing as well.
-pub same-answers : (way : Way) {s text : List ℕ} {start : ℕ} {table table′ table″ code code′ code″ : List ℕ}
-    {registers registers′ registers″ : List ℤ} {workspace workspace′ workspace″ : List ℕ} {n g : ℕ} {compiled : Compilation}
-    {r q : Answer} → Bytes s → Bytes text → Compiles plain s table table′ code code′ (Rows n g)
-    → Compiles tidied s table table″ code code″ compiled
+-- The compilation of a pattern goes by the lengths of the buffers, and not by what they hold.
+same-lengths : (tidying : Bool) (s table table₂ code code₂ : List ℕ) → length table ≡ length table₂
+    → length code ≡ length code₂ → compilation tidying s table code ≡ compilation tidying s table₂ code₂
+same-lengths tidying s table table₂ code code₂ e f = ap₂ (λ m n. answerBy tidying (reading s m) n) e f
+
+-- What two calls of a run leave in registers of their own: the spans of one result, before what stood behind them.
+pub record SameSpans (g : ℕ) (registers registers′ registers₂ registers″ : List ℤ) : Type 0 where
+  pub result : Option Regs
+  pub first : registers′ ≡ spans g result ++ drop (registersOf g) registers
+  pub second : registers″ ≡ spans g result ++ drop (registersOf g) registers₂
+
+-- Demand 3 of `compile`, `compile_tidied`, `match_at` and `search` together, each with buffers of its own, of equal lengths,
+-- whatever they hold: where the plain pattern has room to run, the tidied one has a program of no more rows, which finds the
+-- same, with every group the same, or nothing as well.
+pub same-answers : (way : Way) {s text : List ℕ} {start : ℕ} {table table₂ table′ table″ code code₂ code′ code″ : List ℕ}
+    {registers registers₂ registers′ registers″ : List ℤ} {workspace workspace₂ workspace′ workspace″ : List ℕ} {n g : ℕ}
+    {compiled : Compilation} {r q : Answer} → Bytes text → Compiles plain s table table′ code code′ (Rows n g)
+    → length table ≡ length table₂ → length code ≡ length code₂ → Compiles tidied s table₂ table″ code₂ code″ compiled
     → turnedAway n g (lentBy text start registers workspace) ≡ 0
     → Answered code′ text start (rowOf way) registers workspace r registers′ workspace′
-    → Answered code″ text start (rowOf way) registers workspace q registers″ workspace″
-    → ((m : ℕ) × (compiled ≡ Rows m g) × (m ≤ n)) × (outcome (replyOf r) ≡ outcome (replyOf q)) × (registers′ ≡ registers″)
-same-answers way {s} {text} {start} {table} {code = code} {registers = registers} {workspace = workspace} {n = n} {g = g}
-    {r = r} {q = q} bs bt h k room a b =
-    let lent : Lent = lentBy text start registers workspace in
-    let p : Compiled plain s table code n g = compiled plain s table code n g bs (sym (h .answers)) in
-    let (m, e, fewer) = also-tidied s table code n g bs p in
-    let t : Neat s table code m g = neat s table code m g bs e in
-    let one : p .node ≡ t .node = same-node (sym (p .is-read) ∙ t .is-read) in
-    let u = answers-standard way {n = n} {g = g} {r = p .node} bt (rw (h .code-is) (p .is-coded)) a in
-    let v = answers-standard way {n = m} {g = g} {r = tidy (t .node)} bt (rw (k .code-is) (t .is-coded)) b in
-    let small : turnedAway m g lent ≡ 0 = enough n m g lent fewer room in
-    let std : standardBy way text g (p .node) start ≡ standardBy way text g (tidy (t .node)) start
-    = same-standard way text bt (p .node) (suc g) g start (p .is-coded .numbers) (within n g lent room)
+    → length registers ≡ length registers₂ → length workspace ≡ length workspace₂
+    → Answered code″ text start (rowOf way) registers₂ workspace₂ q registers″ workspace″
+    → ((m : ℕ) × (compiled ≡ Rows m g) × (m ≤ n)) × (outcome (replyOf r) ≡ outcome (replyOf q))
+    × SameSpans g registers registers′ registers₂ registers″
+same-answers way {s} {text} {start} {table} {table₂ = table₂} {code = code} {code₂ = code₂} {registers = registers}
+    {registers₂ = registers₂} {workspace = workspace} {workspace₂ = workspace₂} {n = n} {g = g} {r = r} {q = q}
+    bt h et ec k room a er ew b =
+    let bs : Bytes s = rows-bytes h in
+    let lent : Lent = lentBy text start registers₂ workspace₂ in
+    let again : turnedAway n g lent ≡ 0 = sym (ap₂ (λ x y. turnedAway n g (lend text start x y)) er ew) ∙ room in
+    let here : compilation plain s table₂ code₂ ≡ Rows n g
+    = sym (same-lengths plain s table table₂ code code₂ et ec) ∙ sym (h .answers) in
+    let o : Compiled plain s table code n g = compiled plain s table code n g bs (sym (h .answers)) in
+    let p : Compiled plain s table₂ code₂ n g = compiled plain s table₂ code₂ n g bs here in
+    let (m, e, fewer) = also-tidied s table₂ code₂ n g bs p in
+    let t : Neat s table₂ code₂ m g = neat s table₂ code₂ m g bs e in
+    let one : o .node ≡ t .node = same-node (sym (o .is-read) ∙ ap (reading s) et ∙ t .is-read) in
+    let u = answers-standard way {n = n} {g = g} {r = o .node} bt (coded-as (h .code-is) (o .is-coded)) a in
+    let v = answers-standard way {n = m} {g = g} {r = tidy (t .node)} bt (coded-as (k .code-is) (t .is-coded)) b in
+    let small : turnedAway m g lent ≡ 0 = enough n m g lent fewer again in
+    let std : standardBy way text g (o .node) start ≡ standardBy way text g (tidy (t .node)) start
+    = same-standard way text bt (o .node) (suc g) g start (o .is-coded .numbers) (within n g lent again)
     ∙ ap (λ x. standardBy way text g (tidy x) start) one in (
       (m, k .answers ∙ e, fewer),
-      ap outcome (u .answers room) ∙ outcome-of (standardBy way text g (p .node) start) (executed r) (executed q)
+      ap outcome (u .answers room) ∙ outcome-of (standardBy way text g (o .node) start) (executed r) (executed q)
           ∙ ap (λ o. outcome (answerOf o (executed q))) std ∙ sym (ap outcome (v .answers small)),
-      u .spans-are room ∙ ap (λ o. spans g o ++ drop (registersOf g) registers) std ∙ sym (v .spans-are small),
+      record {
+        result = standardBy way text g (tidy (t .node)) start;
+        first = u .spans-are room ∙ ap (λ o. spans g o ++ drop (registersOf g) registers) std;
+        second = v .spans-are small;
+      },
     )
   where
     same-node : {x y : Node} {i j : ℕ} → pattern x i ≡ pattern y j → x ≡ y
     same-node e = cc
+
+-- A law makes no difference: wherever a part stands, and whatever it becomes by the law's words, the standard's algorithm
+-- matches and finds the same in any text, with every group.
+abbrev pub SameStandard : Node → Node → Type 0
+SameStandard r q = (a : Around) (n : ℕ) → Numbers 1 (fill a r) n → (way : Way) (text : List ℕ) → Bytes text → (g start : ℕ)
+    → start ≤ length text → standardBy way text g (fill a r) start ≡ standardBy way text g (fill a q) start
+
+standard-there : (r q : Node) → SameAnywhere r q → SameStandard r q
+standard-there r q h a n k matching text bytes g start l = h a n k (textOf text) (fair bytes asserts) g start l .0
+standard-there r q h a n k searching text bytes g start l = h a n k (textOf text) (fair bytes asserts) g start l .1
+
+pub laws-standard : All (λ W. (r q : Node) → W r q → SameStandard r q) becomes
+laws-standard = go becomes laws-anywhere
+  where
+    go : (l : List (Node → Node → Type 0)) → All (λ W. (r q : Node) → W r q → SameAnywhere r q) l
+        → All (λ W. (r q : Node) → W r q → SameStandard r q) l
+    go [] h = tt
+    go (W ∷ l) h = (λ r q w. standard-there r q (h .0 r q w), go l (h .1))
