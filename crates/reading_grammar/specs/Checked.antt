@@ -10,6 +10,7 @@ use lib.ListN.{length, getD}
 use borrow.Author.Tests.{ltb-true, ltb-false}
 use Rattle.meaning.specs.Limits.{patternLimit, tableWords, depthLimit}
 use Rattle.meaning.specs.Tests.{by-test}
+use Rattle.meaning.specs.Refusals as No
 use Rattle.reading_items.specs.Reading.{alternativesAt, Reading, Reading.refused, whole, firstHigh, highGo, reading}
 use Rattle.reading_grammar.specs.ClassesSound.{by-choice}
 use Rattle.reading_grammar.specs.Refusals.{Checks, Checks.long, Checks.small, Checks.high}
@@ -129,7 +130,7 @@ module _ (s : List ℕ) (table : ℕ) where
         3,
         firstHigh s,
         record {
-          check = subst (Checks s table 3) (omega (arith, h .same)) (Checks.high (h .within) (h .high) (h .before));
+          check = subst (Checks s table No.highByte) (omega (arith, h .same)) (Checks.high (h .within) (h .high) (h .before));
           least = in-order 3 (λ l. omega arith) (λ l. omega arith) (omega arith);
         },
         refl,

@@ -8,6 +8,7 @@ use native.Mathlib.Decide.{decLt}
 use lib.ListN.{length}
 use Rattle.meaning.specs.Limits.{tableWords, depthLimit}
 use Rattle.meaning.specs.Node.{Node}
+use Rattle.meaning.specs.Refusals as No
 use Rattle.reading_items.specs.Reading.{alternativesAt, Reading, Reading.pattern, Reading.refused, whole, reading}
 use Rattle.reading_grammar.specs.Checked.{Passed, Checking, checked, passed-none, check-number, one-place}
 use Rattle.reading_grammar.specs.Sound.{read-sound, Sound, sound}
@@ -81,7 +82,7 @@ module _ (s : List ℕ) (table : ℕ) where
   one-refusal n p m q t u = same-told (sym (first-refused n p t) ∙ first-refused m q u)
 
   -- The smallest place wins, then the smaller number.
-  pub smallest-place : (n p : ℕ) → reading s table ≡ refused n p → 4 ≤ n → (m q : ℕ) → Refuses s m q → Before n p m q
+  pub smallest-place : (n p : ℕ) → reading s table ≡ refused n p → No.badEscape ≤ n → (m q : ℕ) → Refuses s m q → Before n p m q
   smallest-place n p e l m q x = go (refused-first n p e)
     where
       go : TurnedAway s table n p → Before n p m q
@@ -107,16 +108,16 @@ module _ (s : List ℕ) (table : ℕ) where
       go (refused n p) e h = inr (n, p, refused-first n p e)
 
   -- And what is turned away, but for a table without room, derives under no derivation within the limits.
-  check-derives-not : {n p : ℕ} → Checks s table n p → (n ≡ 2 → ⊥) → (r : Node) (g : ℕ) → Derives s r g → ⊥
+  check-derives-not : {n p : ℕ} → Checks s table n p → (n ≡ No.smallTable → ⊥) → (r : Node) (g : ℕ) → Derives s r g → ⊥
   check-derives-not (long l) f r g u = omega (arith, u .short)
   check-derives-not (small l) f r g u = f refl
   check-derives-not (high {a = a} l k b) f r g u = omega (arith, u .low a l)
 
-  pub turned-derives-not : (n p : ℕ) → TurnedAway s table n p → (n ≡ 2 → ⊥) → (r : Node) (g : ℕ) → Derives s r g → ⊥
+  pub turned-derives-not : (n p : ℕ) → TurnedAway s table n p → (n ≡ No.smallTable → ⊥) → (r : Node) (g : ℕ) → Derives s r g → ⊥
   turned-derives-not n p (TurnedAway.checked c h) f r g u = check-derives-not c f r g u
   turned-derives-not n p (TurnedAway.read none x h) f r g u =
       refused-not s table n p (first-refused n p (TurnedAway.read none x h)) (room (decLt table (tableWords (length s)))) r g u
     where
       room : Dec (table < tableWords (length s)) → tableWords (length s) ≤ table
-      room (yes l) = absurd (none 2 0 (Checks.small l))
+      room (yes l) = absurd (none No.smallTable 0 (Checks.small l))
       room (no l) = omega arith

@@ -13,6 +13,7 @@ use Rattle.meaning.specs.Limits.{depthLimit, groupLimit}
 use Rattle.meaning.specs.Tests.{by-test}
 use Rattle.meaning.specs.Node.{Node, Node.bset, Node.group}
 use Rattle.meaning.specs.Flat.{Kind.sequence, Kind.alternation, parts, join}
+use Rattle.meaning.specs.Refusals as No
 use Rattle.reading_atoms.specs.Chars.{noByte, byteAt, choose, caret, dollar, backslash, dot, openParen, closeParen, openBracket}
 use Rattle.reading_atoms.specs.Chars.{closeBracket, closeBrace, bar, isQuantifier, endsSequence}
 use Rattle.reading_atoms.specs.Escapes.{Escape, Escape.byte, Escape.named, Escape.assertion, Escape.wrong, escapeAt}
@@ -182,7 +183,7 @@ module _ (s : List ℕ) (low : (i : ℕ) → i < length s → getD s i 0 ≤ 0x7
   -- What a `(` opens.
   closed-sound : (d a b g h : ℕ) (r : Node) → Due s (suc d) a g
       → (Is s b closeParen → Rule s Sort.atom (suc d) a (b + 1) g h (r ∷ []))
-      → (eqb (byteAt s b) closeParen ≡ false → Refuses s 11 b) → Told (Items (suc d) a g) (closed s r b h)
+      → (eqb (byteAt s b) closeParen ≡ false → Refuses s No.unmatched b) → Told (Items (suc d) a g) (closed s r b h)
   closed-sound d a b g h r due t f = go (eqb (byteAt s b) closeParen) refl
     where
       go : (x : Bool) → eqb (byteAt s b) closeParen ≡ x

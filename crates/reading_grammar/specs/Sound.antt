@@ -10,6 +10,7 @@ use lib.ListN.{length, getD}
 use borrow.Author.Tests.{eqb-true, ltb-true, ltb-false}
 use Rattle.meaning.specs.Limits.{patternLimit, depthLimit}
 use Rattle.meaning.specs.Tests.{by-test}
+use Rattle.meaning.specs.Refusals as No
 use Rattle.reading_atoms.specs.Chars.{byteAt, closeParen}
 use Rattle.reading_items.specs.Reading.{Part, Part.part, Part.turned, alternativesAt, Reading, Reading.pattern, Reading.refused}
 use Rattle.reading_items.specs.Reading.{whole}
@@ -35,10 +36,10 @@ module _ (s : List ℕ) where
       all : All s low depthLimit 0 0 r b h
       all = t
 
-      left-over : b < length s → Refuses s 11 b
+      left-over : b < length s → Refuses s No.unmatched b
       left-over l = go (eqb (byteAt s b) closeParen) refl
         where
-          go : (x : Bool) → eqb (byteAt s b) closeParen ≡ x → Refuses s 11 b
+          go : (x : Bool) → eqb (byteAt s b) closeParen ≡ x → Refuses s No.unmatched b
           go true e = Refuses.unmatched (all .due) (eqb-true (byteAt s b) closeParen e)
           go false e = absurd (omega (arith, open-end s low all e))
 
