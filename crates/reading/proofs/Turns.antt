@@ -187,7 +187,16 @@ module _ {go : ℕ → List Node → ℕ → ℕ → Part} {k : Kind} {s table�
           apart = all-append (Not k) (i .items) (parts k r) (i .gathered .apart) (parts-flat k r flat);
         };
         grown = omega (arith, grown, count-parts k r);
-        small = omega (arith, series .counted, fewer (i .items ++ parts k r), series-few series, grown, count-parts k r, f .short);
+        small = omega (
+          arith,
+          series .counted,
+          fewer
+              (i .items ++ parts k r),
+          series-few series,
+          grown,
+          count-parts k r,
+          f .short,
+        );
       }
 
   less : (n : ℕ) → 0 < n → (m : ℕ) × (n ≡ suc m)

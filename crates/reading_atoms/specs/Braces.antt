@@ -33,7 +33,8 @@ numberAt s at = numberGo s (length s) 0 at
 -- Two counts: 8 for one above the limit, 9 for a minimum above the maximum.
 abbrev pub judged : ℕ → ℕ → ℕ → Braces
 judged min max end =
-    cond (ltb countLimit min || ltb countLimit max) (refused No.highCount) (cond (ltb max min) (refused No.reversedCounts) (counts min (some max) end))
+    cond (ltb countLimit min || ltb countLimit max) (refused No.highCount)
+    (cond (ltb max min) (refused No.reversedCounts) (counts min (some max) end))
 
 abbrev pub unlimited : ℕ → ℕ → Braces
 unlimited min end = cond (ltb countLimit min) (refused No.highCount) (counts min none end)
@@ -43,7 +44,8 @@ abbrev pub afterComma : List ℕ → ℕ → ℕ → Braces
 afterComma s min at =
     let m : Number = numberAt s at in
     cond (eqb (byteAt s at) closeBrace) (unlimited min (at + 1))
-    (cond (isDigit (byteAt s at) && eqb (byteAt s (m .end)) closeBrace) (judged min (m .value) (m .end + 1)) (refused No.badBraces))
+    (cond (isDigit (byteAt s at) && eqb (byteAt s (m .end)) closeBrace) (judged min (m .value) (m .end + 1))
+    (refused No.badBraces))
 
 -- The counts whose `{` stands at a place: 7 if it is not one of the three forms.
 unfoldable pub bracesAt : List ℕ → ℕ → Braces

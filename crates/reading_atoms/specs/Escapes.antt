@@ -51,7 +51,8 @@ zeroEscape s at = cond (isDigit (byteAt s (at + 2))) (wrong No.badEscape) (byte 
 -- itself.
 abbrev pub otherEscape : Bool → ℕ → ℕ → Escape
 otherEscape inClass b end =
-    cond (isDigit b || eqb b 0x6B) (wrong (cond inClass No.badEscape No.leftOut)) (cond (isWord b || eqb b noByte) (wrong No.badEscape) (byte b end))
+    cond (isDigit b || eqb b 0x6B) (wrong (cond inClass No.badEscape No.leftOut))
+    (cond (isWord b || eqb b noByte) (wrong No.badEscape) (byte b end))
 
 -- The escape whose `\` stands at a place: a listed one; 5 for `\u` anywhere and outside a class for `\1` to `\9` and `\k`; 4
 -- for any other letter, digit or `_`, and for `\` at the end; any other byte is itself. `\b` is 08 in a class and `\B` is not

@@ -164,7 +164,8 @@ not-seven n e none =
 not-seven n e (some m) =
     by-test (λ x. x ≡ refused No.badBraces → ⊥) (ltb countLimit n || ltb countLimit m)
     (λ _ f. let z : _≡_ {A = ℕ} No.highCount No.badBraces = cc in omega arith) (λ _.
-    by-test (λ x. x ≡ refused No.badBraces → ⊥) (ltb m n) (λ _ f. let z : _≡_ {A = ℕ} No.highCount No.badBraces = cc in omega arith)
+    by-test (λ x. x ≡ refused No.badBraces → ⊥) (ltb m n)
+    (λ _ f. let z : _≡_ {A = ℕ} No.highCount No.badBraces = cc in omega arith)
     (λ _ f. let z : _≡_ {A = ℕ} No.highCount No.badBraces = cc in omega arith))
 
 pub above-eight : (n e : ℕ) (m : Option ℕ) → Above n m → judges n m e ≡ refused No.highCount
@@ -174,5 +175,6 @@ above-eight n e (some m) (Above.most l) = rw (lt-ltb countLimit m l, or-true)
 
 pub disordered-nine : (n m e : ℕ) → m < n → (judged n m e ≡ refused No.highCount) ⊎ (judged n m e ≡ refused No.reversedCounts)
 disordered-nine n m e l =
-    by-test (λ x. (x ≡ refused No.highCount) ⊎ (x ≡ refused No.reversedCounts)) (ltb countLimit n || ltb countLimit m) (λ _. inl refl)
+    by-test (λ x. (x ≡ refused No.highCount) ⊎ (x ≡ refused No.reversedCounts)) (ltb countLimit n || ltb countLimit m)
+    (λ _. inl refl)
     (λ _. inr (rw (lt-ltb m n l)))

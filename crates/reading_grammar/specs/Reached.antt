@@ -32,7 +32,8 @@ module _ (s : List ℕ) where
     turns : Fails d number place (turned number place)
     unclosed : {r : Node} {h : ℕ} → number ≡ No.unmatched → d < depthLimit → (Is s place closeParen → ⊥)
         → Fails d number place (part r place h)
-    unmatched : {r : Node} {h : ℕ} → number ≡ No.unmatched → d ≡ depthLimit → place < length s → Fails d number place (part r place h)
+    unmatched : {r : Node} {h : ℕ} → number ≡ No.unmatched → d ≡ depthLimit → place < length s
+        → Fails d number place (part r place h)
 
   -- Then the whole is refused so, or the item around them.
   whole-fails : {number place : ℕ} {p : Part} → Fails depthLimit number place p → whole s p ≡ refused number place

@@ -116,13 +116,15 @@ pub data Refuses (s : List ℕ) : ℕ → ℕ → Type 0 where
   classEscape : {a n : ℕ} → ClassDue s a → WrongEscape s true a n → Refuses s n a
   rangeEscape : {a b n : ℕ} {x : Option ℕ} → ClassDue s a → End s a b x → Dash s b → WrongEscape s true (b + 1) n
       → Refuses s n (b + 1)
-  look : {d a g : ℕ} → Due s d a g → Is s a openParen → Is s (a + 1) question → isLook (byteAt s (a + 2)) ≡ true → Refuses s No.leftOut a
+  look : {d a g : ℕ} → Due s d a g → Is s a openParen → Is s (a + 1) question → isLook (byteAt s (a + 2)) ≡ true
+      → Refuses s No.leftOut a
   -- 6: a quantifier with no atom to repeat, and a ? after ( .
   nothing : {d a g : ℕ} → Due s d a g → isQuantifier (byteAt s a) ≡ true → Refuses s No.noAtom a
   oddGroup : {d a g : ℕ} → Due s (suc d) a g → Is s a openParen → Is s (a + 1) question → (Is s (a + 2) colon → ⊥)
       → isLook (byteAt s (a + 2)) ≡ false → Refuses s No.noAtom (a + 1)
   -- 7, 8 and 9: counts.
-  noForm : {b : ℕ} → AtomBefore s b → Is s b openBrace → ((e n : ℕ) (m : Option ℕ) → Form s b e n m → ⊥) → Refuses s No.badBraces b
+  noForm : {b : ℕ} → AtomBefore s b → Is s b openBrace → ((e n : ℕ) (m : Option ℕ) → Form s b e n m → ⊥)
+      → Refuses s No.badBraces b
   above : {b e n : ℕ} {m : Option ℕ} → AtomBefore s b → Form s b e n m → Above n m → Refuses s No.highCount b
   disordered : {b e n m : ℕ} → AtomBefore s b → Form s b e n (some m) → m < n → Refuses s No.reversedCounts b
   -- 10: a range reversed or with a set as an end; a class unclosed.

@@ -112,12 +112,15 @@ join-none {table} {table′} {top} {kind} {count} e p = record { by = λ k is be
     go k before (r ∷ l) series = absurd (omega (arith, series .counted))
 
 -- Two or more are closed by a record of their kind.
-series-made : {table : List ℕ} {top kind count : ℕ} (k : Kind) → kind ≡ seriesKind k → (before : List ℕ) (r q : Node) (l : List Node)
+series-made : {table : List ℕ} {top kind count : ℕ} (k : Kind) → kind ≡ seriesKind k
+    → (before : List ℕ) (r q : Node) (l : List Node)
     → Gathered k table top count before (r ∷ q ∷ l) → Made table top kind 0 count 0 0 before (link k r (q ∷ l))
 series-made sequence e before r q l g = rw e
-    (made (link sequence r (q ∷ l)) (rw (inner-link sequence r q l (g .apart)) (g .series)) (proper-link sequence r (q ∷ l) (g .series .proper)))
+    (made (link sequence r (q ∷ l)) (rw (inner-link sequence r q l (g .apart)) (g .series))
+    (proper-link sequence r (q ∷ l) (g .series .proper)))
 series-made alternation e before r q l g = rw e
-    (made (link alternation r (q ∷ l)) (rw (inner-link alternation r q l (g .apart)) (g .series)) (proper-link alternation r (q ∷ l) (g .series .proper)))
+    (made (link alternation r (q ∷ l)) (rw (inner-link alternation r q l (g .apart)) (g .series))
+    (proper-link alternation r (q ∷ l) (g .series .proper)))
 
 last-zero : (k : Kind) (r q : Node) (l : List Node) → noSet ≡ Rattle.table.specs.Laws.lastOf (link k r (q ∷ l))
 last-zero sequence r q l = refl

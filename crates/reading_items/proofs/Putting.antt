@@ -75,7 +75,8 @@ unfolding inner
 assert-putting a room h = putting (assert a) (series-none room) h refl room
 
 pub assert-meets : {table table′ : List ℕ} {top a : ℕ} (at g : ℕ) → Room table top → a ≤ lastAssertion
-    → Puts table table′ top assertionKind a 0 noSet → Meets (part (assert a) at g) (GotPart at (top + 1) g) (take (recordWords * top) table) table′
+    → Puts table table′ top assertionKind a 0 noSet
+    → Meets (part (assert a) at g) (GotPart at (top + 1) g) (take (recordWords * top) table) table′
 unfolding inner
 assert-meets {top = top} {a = a} at g room h p = record {
   by = (top + 1, refl, p .by _ (assert a) (made (assert a) (series-none room) h) refl);

@@ -92,7 +92,8 @@ OpensBy s at depth g (Inside from number inside) =
     (depth < depthLimit) × (at < from) × (from ≤ length s) × (inside ≤ groupLimit)
     × ((d : ℕ) → itemAt (suc d) s at g
     ≡ andThen (alternativesAt d s from inside) (λ r end g′. closed s (grouped number r) end g′))
-OpensBy s at depth g (NotOpened number place) = (itemAt (depthLimit - depth) s at g ≡ turned number place) × (No.highByte < number)
+OpensBy s at depth g (NotOpened number place) = (itemAt (depthLimit - depth) s at g ≡ turned number place)
+    × (No.highByte < number)
 
 pub record Opens (s : List ℕ) (at depth groups : ℕ) (answer : Opening) : Type 0 where
   pub by : OpensBy s at depth groups answer

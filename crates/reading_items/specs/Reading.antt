@@ -66,7 +66,8 @@ isLook b = eqb b 0x3D || eqb b 0x21 || eqb b 0x3C
 unfoldable pub openingAt : List ℕ → ℕ → Opening
 openingAt s at =
     cond (eqb (byteAt s (at + 1)) question)
-    (cond (eqb (byteAt s (at + 2)) colon) plain (cond (isLook (byteAt s (at + 2))) (neither No.leftOut at) (neither No.noAtom (at + 1))))
+    (cond (eqb (byteAt s (at + 2)) colon) plain (cond (isLook (byteAt s (at + 2))) (neither No.leftOut at)
+    (neither No.noAtom (at + 1))))
     capturing
 
 -- At the deepest level nothing opens: 13 at the `(`, but 5 where its number is smaller.

@@ -71,8 +71,8 @@ fn rewrite(table: &mut [u32], n: usize, top: usize, law: u32) -> usize
     }
 }
 
-// A step: the law is carried out, what it makes joins a series of its own kind, and the derived words are those of the pattern that
-// is then there. What is asked: the records of a pattern that was read, and the first place at which a law fits it.
+// A step: the law is carried out, what it makes joins a series of its own kind, and the derived words are those of the
+// pattern that is then there. What is asked: the records of a pattern that was read, and the first place at which a law fits it.
 fn step(table: &mut [u32], n: usize, top: usize, law: u32) -> usize
     requires { ⌜ SomeFound (now table) n top law ⌝ }
     ensures { λ r. ⌜ Steps (now (table .entry)) (now (table .exit)) n top law r ⌝ }

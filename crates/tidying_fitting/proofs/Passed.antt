@@ -232,7 +232,8 @@ module _ {table : List ℕ} {one other a b : ℕ} (fa : FirstEnds a table one) (
       (sym (ap (λ d. d .kind) (t′ .by before′ q hq)) ∙ k′)
       (s .by before p hp) (u .by before′ q hq))
     where
-      set : (p q : Node) (y z : List ℕ) → p ≡ bset y → q ≡ bset z → Proper p → Proper q → v ≡ y → w ≡ z → x ≡ sameSet (byteSet p) q
+      set : (p q : Node) (y z : List ℕ) → p ≡ bset y → q ≡ bset z → Proper p → Proper q → v ≡ y → w ≡ z
+          → x ≡ sameSet (byteSet p) q
       set p q y z ep eq sp sq lp lq =
           let fp : Proper (bset y) = rw ep at sp in
           let fq : Proper (bset z) = rw eq at sq in

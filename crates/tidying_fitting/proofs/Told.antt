@@ -26,7 +26,8 @@ module _ {table : List ℕ} {top : ℕ} where
   asked s = omega (arith, room (s .ends) .some, room (s .ends) .few, room (s .ends) .held)
 
   -- What the words that were read say, whatever the part is.
-  pub own-told : {k n i h l m z : ℕ} → k ≡ wordOf table top kindWord → n ≡ wordOf table top recordsWord → i ≡ wordOf table top itemsWord → h ≡ wordOf table top highestWord
+  pub own-told : {k n i h l m z : ℕ} → k ≡ wordOf table top kindWord → n ≡ wordOf table top recordsWord
+      → i ≡ wordOf table top itemsWord → h ≡ wordOf table top highestWord
       → l ≡ wordOf table top leastWord → m ≡ wordOf table top mostWord → z ≡ wordOf table top lazyWord
       → Tells (record { kind = k; records = n; items = i; highest = h; least = l; most = m; lazy = z }) table top ownOf
   own-told {k} {n} {i} {h} {l} {m} {z} e₀ e₂ e₃ e₆ e₈ e₉ e₁₀ = record {

@@ -45,7 +45,10 @@ record Before (table : List ℕ) (n : ℕ) (before : List ℕ) (front : List Nod
 
 module _ {table : List ℕ} {top items : ℕ} where
   pub alone-told : items ≤ 1 → TellsLast false table top items (λ front q. follows (past front []) q)
-  alone-told h = record { by = λ before front q series. go front q (omega (arith, series .counted, length-append front (q ∷ []))) }
+  alone-told h = record {
+    by = λ before front q series. go front q
+        (omega (arith, series .counted, length-append front (q ∷ [])));
+  }
     where
       go : (front : List Node) (q : Node) → length front ≤ 0 → false ≡ follows (past front []) q
       go [] q h = refl
@@ -56,7 +59,8 @@ module _ {table : List ℕ} {top items : ℕ} where
   before-last {n} h t before front q series =
       let k = some-last front (omega (arith, series .counted, length-append front (q ∷ []))) in
       let here : n ≡ top - recordCount q = t .by _ q (last-ends front q series) in
-      let short : Series table n (items - 1) before (k .front ++ (k .last ∷ [])) = rw (here, ← k .split) (shorter front q series) in
+      let short : Series table n (items - 1) before (k .front ++ (k .last ∷ [])) = rw (here, ← k .split)
+      (shorter front q series) in
       record {
         others = k .front;
         part = k .last;
@@ -66,7 +70,8 @@ module _ {table : List ℕ} {top items : ℕ} where
 
   pub before-asked : {n : ℕ} → 1 < items → Tells n table top (startOf top) → SomeLast table top items → SomePart table n
   before-asked h t s =
-      let k = before-last h t (s .before) (s .front) (s .last) (s .series) in record { before = _; part = k .part; ends = k .ends }
+      let k = before-last h t (s .before) (s .front) (s .last)
+      (s .series) in record { before = _; part = k .part; ends = k .ends }
 
   pub follows-told : {n : ℕ} → 1 < items → Tells n table top (startOf top) → {b : Bool} → TellsBoth b table n top alike
       → TellsLast b table top items (λ front q. follows (past front []) q)

@@ -96,7 +96,8 @@ turn {test} {l} {table} {end} {left} {before} {found} w h =
         series = shorter (k .front) (k .last) series;
         best = ap (cond (test (past (k .front) []) (k .last)) end)
             (w .best ∙ ap (λ s. endOf end (leftmost test s (w .more))) seen)
-            ∙ sym (one-more test (past (k .front) []) (k .last) (w .more) end (room (last-ends (k .front) (k .last) series) .few));
+            ∙ sym (one-more test (past (k .front) []) (k .last) (w .more) end
+            (room (last-ends (k .front) (k .last) series) .few));
       };
     }
 
@@ -104,7 +105,8 @@ turn {test} {l} {table} {end} {left} {before} {found} w h =
 pub over : {test : Test} {l : List Node} {table : List ℕ} {end left : ℕ} {before : List ℕ} {found : ℕ}
     → Walk test l table end left before found → left ≤ 0
     → (found ≡ endOf end (leftmost test [] l)) × Series table end 0 before []
-over {test} {l} {table} {end} {left} {before} {found} w h = go (w .rest) (omega (arith, w .series .counted)) (w .split) (w .series)
+over {test} {l} {table} {end} {left} {before} {found} w h = go (w .rest) (omega (arith, w .series .counted)) (w .split)
+    (w .series)
     (w .best)
   where
     go : (rest : List Node) → length rest ≤ 0 → l ≡ rest ++ w .more → Series table end left before rest

@@ -40,8 +40,8 @@ pub struct Record {
     pub lazy: u32,
 }
 
-// What a law looks for among the parts of a series: T1 an empty item, T6 an alternative without groups that equals an earlier one,
-// T7 a set with no byte, T8 an alternative whose first item is the byte set that its left neighbour begins with.
+// What a law looks for among the parts of a series: T1 an empty item, T6 an alternative without groups that equals an
+// earlier one, T7 a set with no byte, T8 an alternative whose first item is the byte set that its left neighbour begins with.
 pub enum Mark {
     Empty,
     Equal,

@@ -69,7 +69,8 @@ pub rejoined-join : (k : Kind) (l : List Node) → All (Not k) l
 unfolding skeletonIn inner
 rejoined-join k [] h = refl
 rejoined-join k (r ∷ []) h = append-nil (skeleton r)
-rejoined-join k (r ∷ q ∷ l) h = sym (pair-own k r (link k q l) ∙ rw (row-parts k (link k q l), parts-link k q l (h .1 .0) (h .1 .1)))
+rejoined-join k (r ∷ q ∷ l) h = sym (pair-own k r (link k q l)
+    ∙ rw (row-parts k (link k q l), parts-link k q l (h .1 .0) (h .1 .1)))
 
 -- The own record of a series whose records end at `top` is set to how many parts are left.
 pub record Rejoins (table table′ : List ℕ) (n top kept n′ : ℕ) : Type 0 where

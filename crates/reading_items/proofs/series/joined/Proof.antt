@@ -32,7 +32,8 @@ same-length-2 : tie.Need-same-length-2
 same-length-2 c = search needs
 
 returns-3 : tie.Need-returns-3
-returns-3 c = join-series ((c .before .before .before .before .before .if1) .left) ((c .before .before .before .before .if2) .left)
+returns-3 c = join-series ((c .before .before .before .before .before .if1) .left)
+    ((c .before .before .before .before .if2) .left)
     ((c .before .before .put2) .ensures)
 
 pub joined-spec : {M : Type 1} → statement M

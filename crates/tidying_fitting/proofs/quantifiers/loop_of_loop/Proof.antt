@@ -30,4 +30,5 @@ returns-2 c = first-passes (fits t5) (isNested noMaximum) (lazyWords leb) t5-wor
 
 pub loop-of-loop-spec : {M : Type 1} → statement M
 loop-of-loop-spec =
-    tie.close (tie.spec (λ c κs. search needs) returns (λ c κs. search needs) (λ c. omega (arith, asked ((c .before .before .before .before) .pre))) own-requires-2 returns-2)
+    tie.close (tie.spec (λ c κs. search needs) returns (λ c κs. search needs)
+    (λ c. omega (arith, asked ((c .before .before .before .before) .pre))) own-requires-2 returns-2)

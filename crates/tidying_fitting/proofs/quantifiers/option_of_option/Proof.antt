@@ -29,4 +29,5 @@ returns-2 c = first-passes (fits t9) (isNested 1) (lazyWords eqb) t9-words
 
 pub option-of-option-spec : {M : Type 1} → statement M
 option-of-option-spec =
-    tie.close (tie.spec (λ c κs. search needs) returns (λ c κs. search needs) (λ c. omega (arith, asked ((c .before .before .before .before) .pre))) own-requires-2 returns-2)
+    tie.close (tie.spec (λ c κs. search needs) returns (λ c κs. search needs)
+    (λ c. omega (arith, asked ((c .before .before .before .before) .pre))) own-requires-2 returns-2)

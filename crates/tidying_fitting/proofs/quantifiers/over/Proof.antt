@@ -20,4 +20,5 @@ returns-2 c = on-quantifier (λ o i. eqb (i .kind) ((c .before .before .before .
     ((c .before .before .before .before .own) .ensures) ((c .before .own2) .ensures) refl
 
 pub over-spec : {M : Type 1} → statement M
-over-spec = tie.close (tie.spec (λ c κs. search needs) returns (λ c. omega (arith, asked ((c .before .before .before .before) .pre))) own-requires-2 returns-2)
+over-spec = tie.close (tie.spec (λ c κs. search needs) returns
+    (λ c. omega (arith, asked ((c .before .before .before .before) .pre))) own-requires-2 returns-2)

@@ -50,5 +50,6 @@ returns c = record { by = λ before r p. walk-over p ((c .before .loop) .inv bef
 pub leftmost-spec : {M : Type 1} → statement M
 leftmost-spec =
     tie.close
-    (tie.spec Inv-loop μ-loop (λ c. omega (arith, asked ((c .before) .pre))) (λ c κs. search needs) loop-holds marked-requires start-requires (λ c. search needs)
+    (tie.spec Inv-loop μ-loop (λ c. omega (arith, asked ((c .before) .pre)))
+    (λ c κs. search needs) loop-holds marked-requires start-requires (λ c. search needs)
     (λ c. search needs) loop-again returns)
