@@ -44,11 +44,13 @@ pub demand-1 : {code text : List ℕ} {start row : ℕ} {registers registers′ 
 demand-1 a = turned-rows a
 
 -- a run that is not turned away has ended, and the count reported is the steps';
-pub demand-1-count : (way : Way) {code text : List ℕ} {start : ℕ} {registers registers′ : List ℤ} {workspace workspace′ : List ℕ}
+pub demand-1-count : (way : Way) {code text : List ℕ} {start : ℕ} {registers registers′ : List ℤ}
+    {workspace workspace′ : List ℕ}
     {r : Answer} → Answered code text start (rowOf way) registers workspace r registers′ workspace′
     → refusal code (lentBy text start registers workspace) ≡ 0
     → Done (runOf code text start (rowOf way)) × (executed r ≡ count (runOf code text start (rowOf way)))
-demand-1-count way a e = (ended-run a way refl e, counted-rows a e)
+demand-1-count way {code} {text} {start} {registers} {workspace = workspace} a e =
+    (ended-run way code text start registers workspace e, counted-rows a e)
 
 -- and rows executed are at most two for each row at any one position, and so for each position from the start to the end.
 pub demand-1-rows : (way : Way) {code text : List ℕ} {start : ℕ} {registers registers′ : List ℤ} {workspace workspace′ : List ℕ}
@@ -56,7 +58,8 @@ pub demand-1-rows : (way : Way) {code text : List ℕ} {start : ℕ} {registers 
     → (refusal code (lentBy text start registers workspace) ≡ 0 → (m : ℕ)
     → length (seen (stepsOf code text start (rowOf way) m)) ≤ 2 * rowsSaid code)
     × (executed r ≤ 2 * rowsSaid code * (length text - start + 1))
-demand-1-rows way a = (position-rows a way refl, bounded-rows a)
+demand-1-rows way {code} {text} {start} {registers} {workspace = workspace} a =
+    (position-rows way code text start registers workspace, bounded-rows a)
 
 -- The number, found or none, place and count that an answer stands for: a refusal has place 0 and count 0.
 pub demand-1-values : (k : ℕ) → valuesOf (replyOf (Refused k)) ≡ record { number = k; found = 0; place = 0; count = 0 }

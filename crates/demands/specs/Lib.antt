@@ -4,6 +4,7 @@ pub mod Tidied
 pub mod Demands
 pub mod Pinned
 pub mod Impossible
+pub mod Cheats
 pub mod Untidied
 pub mod HostPatterns
 pub mod HostCodes

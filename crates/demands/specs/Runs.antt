@@ -13,10 +13,10 @@ use Rattle.meaning.specs.Bytes.{Bytes, textOf}
 use Rattle.meaning.specs.Limits.{leastRows}
 use Rattle.meaning.specs.Node.{Node}
 use Rattle.machine.specs.Steps.{Machine, best, count, seen, Done, steps, begun, firstThread, moveOf}
-use Rattle.machine.specs.Passed.{run-done, run-at-position}
+use Rattle.machine.specs.Passed.{run-done, run-at-position, run-frugal}
 use Rattle.machine.specs.Coded.{rowsIn-length}
 use Rattle.machine.specs.Words.{rowsSaid, groupsSaid, rowsIn, decode}
-use Rattle.machine.specs.Allowed.{within, allowed}
+use Rattle.machine.specs.Allowed.{within, Allowed, allowed}
 use Rattle.running_moves.specs.Ready.{Ready, ready}
 use Rattle.machine.specs.Replies.{Reply, Reply.found, Reply.missing, Reply.refused, valuesOf, Lent, lentBy, turnedAway, refusal}
 use Rattle.machine.specs.Replies.{runOf, answerOf, replyTo, reply, spans, registersFrom, registersAfter}
@@ -33,7 +33,7 @@ use Rattle.reading_grammar.specs.Sound.{Sound, sound}
 use Rattle.demands.specs.Patterns.{Replies, answered-exactly, derives, derived-bytes}
 
 -- Answers of one reply are the same, and a run's reply has its count.
-answerAs : Reply → Answer
+unfoldable pub answerAs : Reply → Answer
 answerAs (found n) = Found n
 answerAs (missing n) = Missing n
 answerAs (refused n) = Refused n
@@ -61,6 +61,35 @@ row-few : (way : Way) → rowOf way < leastRows
 row-few matching = omega arith
 row-few searching = omega arith
 
+-- A run that is not turned away: it has ended, and on its way no more than two rows are executed for each row at any one
+-- position, and so for each position.
+module _ (way : Way) (code text : List ℕ) (start : ℕ) (registers : List ℤ) (workspace : List ℕ)
+    (e : refusal code (lentBy text start registers workspace) ≡ 0) where
+  allows : Allowed code (lentBy text start registers workspace)
+  allows = allowed code (lentBy text start registers workspace) e
+
+  ready-code : Ready code
+  ready-code = ready code (allows .passes)
+
+  row-low : rowOf way < length (rowsIn code (rowsSaid code) 0)
+  row-low = omega (arith, rowsIn-length code (rowsSaid code) 0, ready-code .least, row-few way)
+
+  pub ended-run : Done (runOf code text start (rowOf way))
+  ended-run = run-done (decode code) (ready-code .rows) (textOf text) start (rowOf way) row-low (allows .inside)
+
+  pub position-rows : (m : ℕ) → length (seen (stepsOf code text start (rowOf way) m)) ≤ 2 * rowsSaid code
+  position-rows m =
+      omega (
+        arith,
+        rowsIn-length code (rowsSaid code) 0,
+        run-at-position (decode code) (ready-code .rows) (textOf text) start (rowOf way) row-low (allows .inside) m,
+      )
+
+  pub few-rows : count (runOf code text start (rowOf way)) ≤ 2 * rowsSaid code * (length text - start + 1)
+  few-rows = subst (λ (n : ℕ). count (runOf code text start (rowOf way)) ≤ 2 * n * (length text - start + 1))
+      (rowsIn-length code (rowsSaid code) 0)
+      (run-frugal (decode code) (ready-code .rows) (textOf text) start (rowOf way) row-low (allows .inside))
+
 -- Demand 1: for any code, text, start and buffers, at most two rows are executed for each row and position,
 module _ {code text : List ℕ} {start row : ℕ} {registers registers′ : List ℤ} {workspace workspace′ : List ℕ} {r : Answer}
     (a : Answered code text start row registers workspace r registers′ workspace′) where
@@ -80,25 +109,6 @@ module _ {code text : List ℕ} {start row : ℕ} {registers registers′ : List
   -- a run that is not turned away reports the steps' count,
   pub counted-rows : refusal code lent ≡ 0 → executed r ≡ count M
   counted-rows e = ap (λ x. valuesOf x .count) (replied 0 e) ∙ count-of (best M) (count M)
-
-  -- the run that was counted has ended, and on its way no more than two rows are executed for each row at any one position,
-  module _ (way : Way) (same : row ≡ rowOf way) (e : refusal code lent ≡ 0) where
-    ready-code : Ready code
-    ready-code = ready code (allowed code lent e .passes)
-
-    row-low : row < length (rowsIn code (rowsSaid code) 0)
-    row-low = omega (arith, rowsIn-length code (rowsSaid code) 0, ready-code .least, row-few way, same)
-
-    pub ended-run : Done M
-    ended-run = run-done (decode code) (ready-code .rows) (textOf text) start row row-low (allowed code lent e .inside)
-
-    pub position-rows : (m : ℕ) → length (seen (stepsOf code text start row m)) ≤ 2 * rowsSaid code
-    position-rows m =
-        omega (
-          arith,
-          rowsIn-length code (rowsSaid code) 0,
-          run-at-position (decode code) (ready-code .rows) (textOf text) start row row-low (allowed code lent e .inside) m,
-        )
 
   -- and one that is turned away says the first number in order whose condition holds, and changes nothing.
   pub turned-rows : (k : ℕ) → refusal code lent ≡ suc k
