@@ -47,7 +47,8 @@ pub record Running (way : Way) : Type 0 where
   pub spans-left : List ℕ → List ℕ → ℕ → List ℤ
   pub words-left : List ℕ → List ℕ → ℕ → List ℕ
   pub answered : (c text : List ℕ) (start : ℕ) → Bytes text
-      → Answered c text start (rowOf way) registers workspace (answer c text start) (spans-left c text start) (words-left c text start)
+      → Answered c text start (rowOf way) registers workspace (answer c text start) (spans-left c text start)
+      (words-left c text start)
 
 -- Of the empty pattern it says what the standard's algorithm does.
 module _ (way : Way) (a : Running way) (text : List ℕ) (start : ℕ) (bt : Bytes text) where
