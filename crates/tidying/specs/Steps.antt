@@ -1,4 +1,4 @@
--- A step of the tidier over a table: a law is carried out at the part that was found, what it makes settles in the series that
+-- A step of the tidier over a table: a law is carried out at the part that was found, what it makes merges in the series that
 -- it stands in, and the derived words are written anew.
 use mathlib.Core.Path.{_≡_, sym, ap, subst, _∙_}
 use mathlib.Core.Option.{Option, none, some, Option·map, Option·none-ne-some, Option·some-injective}
@@ -23,8 +23,8 @@ use Rattle.tidying_shapes.specs.Laws.{says-length}
 use Rattle.tidying_shapes.specs.Told.{skeleton-count, stands-say}
 use Rattle.tidying_shapes.specs.Spots.{Parent, Parent.top as outermost, Parent.alone, Parent.among, rowOf, behind, Spot}
 use Rattle.tidying_shapes.specs.Placed.{Spots, placed}
-use Rattle.tidying_shapes.specs.Replaced.{spot-tokens, spot-unsettled, spot-settled}
-use Rattle.tidying_shapes.specs.Settling.{Unsettled, SomeUnsettled, Settled}
+use Rattle.tidying_shapes.specs.Replaced.{spot-tokens, spot-unmerged, spot-merged}
+use Rattle.tidying_shapes.specs.Merging.{Unmerged, SomeUnmerged, Merged}
 use Rattle.tidying_shapes.specs.Fresh.{Said, SomeSaid, Refreshed}
 use Rattle.tidying_rewriting.specs.Rewriting.{Fitting, SomeFitting, count}
 use Rattle.tidying_rewriting.specs.Carried.{Carries}
@@ -77,12 +77,12 @@ series-less k = by-parts k (λ y l. length (skeleton y) ≤ length (skeletonIn (
     = ap length (pair-in none k r q) ∙ simp length-append (omega arith) in
     omega arith)
 
--- So before a part has settled there is at most one token more than after.
-unsettled-less : (P : Parent none) (y : Node)
+-- So before a part has merged there is at most one token more than after.
+unmerged-less : (P : Parent none) (y : Node)
     → length (skeleton y) + length (behind P 1) ≤ length (skeletonIn (rowOf P) y ++ behind P (width (rowOf P) y)) + 1
-unsettled-less outermost y = simp length-append (omega arith)
-unsettled-less (alone tok rest) y = simp length-append (omega arith)
-unsettled-less (among k others later rest) y = simp length-append (omega (arith, series-less k y))
+unmerged-less outermost y = simp length-append (omega arith)
+unmerged-less (alone tok rest) y = simp length-append (omega arith)
+unmerged-less (among k others later rest) y = simp length-append (omega (arith, series-less k y))
 
 -- Every pattern has a token.
 has-token : (y : Node) → 1 ≤ length (skeleton y)
@@ -133,7 +133,7 @@ module _ {table : List ℕ} {n g p : ℕ} {r q : Node} {top law : ℕ} (h : Held
       let long : length (skeleton q) ≡ length left + length (skeletonIn (rowOf (spot .parent)) (fit .result) ++
       behind (spot .parent) (width (rowOf (spot .parent)) (fit .result)))
       = ap length next-tokens ∙ simp length-append in
-      omega (arith, next-count, unsettled-less (spot .parent) (fit .result))
+      omega (arith, next-count, unmerged-less (spot .parent) (fit .result))
 
   -- The law is carried out,
   fitting : Fitting (lawOf law) table n top (place-ended r all (h .stands) top within .before) (placeAt r top .part)
@@ -159,7 +159,7 @@ module _ {table : List ℕ} {n g p : ℕ} {r q : Node} {top law : ℕ} (h : Held
     fitting = fitting;
   }
 
-  -- what it makes settles,
+  -- what it makes merges,
   module _ {table₁ : List ℕ} {n₁ : ℕ} (w : Carries law table table₁ n top n₁) where
     says₁ : Says table₁ n₁ (left ++ (skeleton (fit .result) ++ right))
     says₁ = w .by .by _ (placeAt r top .part) (fit .result) left right fitting
@@ -178,18 +178,18 @@ module _ {table : List ℕ} {n g p : ℕ} {r q : Node} {top law : ℕ} (h : Held
     pub made-few : (top ≤ n) × (n < top + n₁) × (recordWords * n ≤ length table) × (recordWords * n₁ ≤ length table₁)
     made-few = (within .1, root-at .0, h .stands .room, says₁ .room)
 
-    unsettled : Unsettled table₁ n₁ (top + n₁ - n - 1) left (fit .result) (spot .parent)
-    unsettled = spot-unsettled spot (fit .result) says₁ (omega (arith, root-at)) (rw (fit .becomes) (next .proper (h .proper)))
+    unmerged : Unmerged table₁ n₁ (top + n₁ - n - 1) left (fit .result) (spot .parent)
+    unmerged = spot-unmerged spot (fit .result) says₁ (omega (arith, root-at)) (rw (fit .becomes) (next .proper (h .proper)))
         (rw (fit .becomes) (omega (arith, skeleton-count q (next .proper (h .proper)), next-count, h .short)))
 
-    pub some-unsettled : SomeUnsettled table₁ n₁ (top + n₁ - n - 1)
-    some-unsettled = record { before = left; part = fit .result; parent = spot .parent; unsettled = unsettled }
+    pub some-unmerged : SomeUnmerged table₁ n₁ (top + n₁ - n - 1)
+    some-unmerged = record { before = left; part = fit .result; parent = spot .parent; unmerged = unmerged }
 
     -- and the derived words are written.
-    module _ {table₂ : List ℕ} {n₂ : ℕ} (s : Settled table₁ table₂ n₁ (top + n₁ - n - 1) n₂) where
+    module _ {table₂ : List ℕ} {n₂ : ℕ} (s : Merged table₁ table₂ n₁ (top + n₁ - n - 1) n₂) where
       said : Said table₂ n₂ q
       said =
-          let says₂ : Says table₂ n₂ (skeleton q) = rw (fit .becomes) at (spot-settled spot (fit .result) unsettled s) in
+          let says₂ : Says table₂ n₂ (skeleton q) = rw (fit .becomes) at (spot-merged spot (fit .result) unmerged s) in
           record {
             says = says₂;
             proper = next .proper (h .proper);

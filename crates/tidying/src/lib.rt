@@ -6,7 +6,7 @@ ghost use Rattle.tidying.specs.Search.{SomeSought, Finds};
 ghost use Rattle.tidying.specs.Held.{SomeHeld, SomeFound, Steps, Tidies};
 use reading_items::clear;
 use table::RECORD_WORDS;
-use tidying_fitting::Mark;
+use tidying_fitting::Want;
 use tidying_fitting::fits;
 use tidying_laws::LAWS;
 use tidying_laws::T1;
@@ -23,8 +23,8 @@ use tidying_rewriting::drop_empty;
 use tidying_rewriting::unnest;
 use tidying_rewriting::unquantify;
 use tidying_rewriting::void;
+use tidying_shapes::merge;
 use tidying_shapes::refresh;
-use tidying_shapes::settle;
 use tidying_sharing::share;
 
 // What a search for a law finds: a part and the lowest law that fits it; or nothing.
@@ -63,7 +63,7 @@ fn rewrite(table: &mut [u32], n: usize, top: usize, law: u32) -> usize
         T3 => unquantify(table, n, top),
         T4 => unquantify(table, n, top),
         T5 => unnest(table, n, top),
-        T6 => drop_alternative(table, n, top, Mark::Equal),
+        T6 => drop_alternative(table, n, top, Want::Equal),
         T7 => void(table, n, top),
         T8 => share(table, n, top),
         T9 => unnest(table, n, top),
@@ -78,7 +78,7 @@ fn step(table: &mut [u32], n: usize, top: usize, law: u32) -> usize
     ensures { λ r. ⌜ Steps (now (table .entry)) (now (table .exit)) n top law r ⌝ }
 {
     let made = rewrite(table, n, top, law);
-    let count = settle(table, made, top + made - n - 1);
+    let count = merge(table, made, top + made - n - 1);
     refresh(table, count);
     count
 }

@@ -3,4 +3,4 @@ mod Told
 mod Passed
 mod Walked
 mod Blocks
-mod Marked
+mod Wanted

@@ -22,7 +22,7 @@ use Rattle.table.specs.Stands.{Ends, Series, SomePart}
 use Rattle.tidying_fitting.specs.Parts.{Tells, TellsBoth, FirstEnds, firstItem}
 use Rattle.table.specs.Roots.{last-ends, inside}
 use Rattle.tidying_fitting.specs.Words.{ownOf, startOf, same-test, when-some}
-use Rattle.tidying_fitting.specs.Marks.{alike, beginsWith}
+use Rattle.tidying_fitting.specs.Wants.{alike, beginsWith}
 use Rattle.tidying_fitting.specs.Fitting.{isSome}
 use Rattle.tidying_fitting.specs.Places.{Test, Walk, Turn, begin, turn}
 use Rattle.tidying_fitting.specs.declared.Record.{Record}

@@ -19,7 +19,7 @@ use Rattle.table.specs.Stands.{Ends, Series, SomePart}
 use Rattle.tidying_fitting.specs.Parts.{SomeLast, Tells, TellsLast, TellsBoth}
 use Rattle.tidying_fitting.specs.Parts.{room}
 use Rattle.tidying_fitting.specs.Words.{ownOf, startOf}
-use Rattle.tidying_fitting.specs.Marks.{alike, follows, any-leftmost}
+use Rattle.tidying_fitting.specs.Wants.{alike, follows, any-leftmost}
 use Rattle.tidying_laws.specs.Choices.{any}
 use Rattle.tidying_fitting.specs.Fitting.{isSome}
 use Rattle.tidying_fitting.specs.Places.{Split, Test, leftmost, endOf, Walk, begin, turn, over, past-more}

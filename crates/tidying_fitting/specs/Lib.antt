@@ -2,4 +2,4 @@ pub mod Fitting
 pub mod Parts
 pub mod Places
 pub mod Words
-pub mod Marks
+pub mod Wants

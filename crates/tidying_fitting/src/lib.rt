@@ -42,7 +42,7 @@ pub struct Record {
 
 // What a law looks for among the parts of a series: T1 an empty item, T6 an alternative without groups that equals an
 // earlier one, T7 a set with no byte, T8 an alternative whose first item is the byte set that its left neighbour begins with.
-pub enum Mark {
+pub enum Want {
     Empty,
     Equal,
     Void,

@@ -1,6 +1,6 @@
 // The laws for the items of a sequence and the alternatives of an alternation: T1 and T6 to T8. Each looks for a part in a
 // series, and the parts of a series are passed from the last one back: its own record says where the one before it ends.
-use super::Mark;
+use super::Want;
 use super::last_words;
 use super::own;
 use super::start;
@@ -18,7 +18,7 @@ ghost use Rattle.tidying_laws.specs.Alternatives.{past};
 ghost use Rattle.tidying_fitting.specs.Fitting.{fits};
 ghost use Rattle.table.specs.Stands.{SomePart};
 ghost use Rattle.tidying_fitting.specs.Parts.{SomeLast, Tells, TellsLast, TellsBoth, FirstEnds, Compares};
-ghost use Rattle.tidying_fitting.specs.Marks.{marks, alike, goes, follows, repeats, markedEnd, hasMarked};
+ghost use Rattle.tidying_fitting.specs.Wants.{wants, alike, goes, follows, repeats, wantedEnd, hasWanted};
 
 // Whether a part is a byte set with no byte.
 fn is_void(table: &[u32], top: usize) -> bool
@@ -143,28 +143,28 @@ fn goes(table: &[u32], top: usize, items: u32) -> bool
 }
 
 // Whether the last part of a series is what a law looks for.
-fn marked(table: &[u32], top: usize, items: u32, mark: Mark) -> bool
+fn wanted(table: &[u32], top: usize, items: u32, want: Want) -> bool
     requires { ⌜ SomeLast (now table) top items ⌝ }
-    ensures { λ r. ⌜ TellsLast r (now (table .entry)) top items (λ front q. marks mark (past front []) q) ⌝ }
+    ensures { λ r. ⌜ TellsLast r (now (table .entry)) top items (λ front q. wants want (past front []) q) ⌝ }
 {
-    match mark {
-        Mark::Empty => own(table, top).kind == EMPTY,
-        Mark::Equal => goes(table, top, items),
-        Mark::Void => is_void(table, top),
-        Mark::Alike => follows(table, top, items),
+    match want {
+        Want::Empty => own(table, top).kind == EMPTY,
+        Want::Equal => goes(table, top, items),
+        Want::Void => is_void(table, top),
+        Want::Alike => follows(table, top, items),
     }
 }
 
 // Where the leftmost such part among the parts of a part ends; 0 if there is none. They are passed from the last one back.
-pub fn leftmost(table: &[u32], top: usize, mark: Mark) -> usize
+pub fn leftmost(table: &[u32], top: usize, want: Want) -> usize
     requires { ⌜ SomePart (now table) top ⌝ }
-    ensures { λ r. ⌜ Tells r (now (table .entry)) top (markedEnd mark top) ⌝ }
+    ensures { λ r. ⌜ Tells r (now (table .entry)) top (wantedEnd want top) ⌝ }
 {
     let mut end = top - 1;
     let mut left = own(table, top).items;
     let mut found: usize = 0;
     while 0 < left {
-        if marked(table, end, left, mark) {
+        if wanted(table, end, left, want) {
             found = end;
         }
         end = start(table, end);
@@ -174,15 +174,15 @@ pub fn leftmost(table: &[u32], top: usize, mark: Mark) -> usize
 }
 
 // Whether a part is of a kind, and among its parts is one that a law looks for.
-fn has_marked(table: &[u32], top: usize, kind: u32, mark: Mark) -> bool
+fn has_wanted(table: &[u32], top: usize, kind: u32, want: Want) -> bool
     requires { ⌜ SomePart (now table) top ⌝ }
-    ensures { λ r. ⌜ Tells r (now (table .entry)) top (hasMarked kind mark) ⌝ }
+    ensures { λ r. ⌜ Tells r (now (table .entry)) top (hasWanted kind want) ⌝ }
 {
     let part = own(table, top);
     if part.kind != kind {
         return false;
     }
-    leftmost(table, top, mark) != 0
+    leftmost(table, top, want) != 0
 }
 
 // T1: an item of a sequence is empty.
@@ -190,7 +190,7 @@ pub fn empty_item(table: &[u32], top: usize) -> bool
     requires { ⌜ SomePart (now table) top ⌝ }
     ensures { λ r. ⌜ Tells r (now (table .entry)) top (fits t1) ⌝ }
 {
-    has_marked(table, top, SEQUENCE, Mark::Empty)
+    has_wanted(table, top, SEQUENCE, Want::Empty)
 }
 
 // T6: an alternative without groups equals an earlier one.
@@ -198,7 +198,7 @@ pub fn equal_alternative(table: &[u32], top: usize) -> bool
     requires { ⌜ SomePart (now table) top ⌝ }
     ensures { λ r. ⌜ Tells r (now (table .entry)) top (fits t6) ⌝ }
 {
-    has_marked(table, top, ALTERNATION, Mark::Equal)
+    has_wanted(table, top, ALTERNATION, Want::Equal)
 }
 
 // T7: an alternative is a set with no byte, or an item of a sequence without groups.
@@ -206,10 +206,10 @@ pub fn void_part(table: &[u32], top: usize) -> bool
     requires { ⌜ SomePart (now table) top ⌝ }
     ensures { λ r. ⌜ Tells r (now (table .entry)) top (fits t7) ⌝ }
 {
-    if has_marked(table, top, ALTERNATION, Mark::Void) {
+    if has_wanted(table, top, ALTERNATION, Want::Void) {
         return true;
     }
-    if !has_marked(table, top, SEQUENCE, Mark::Void) {
+    if !has_wanted(table, top, SEQUENCE, Want::Void) {
         return false;
     }
     let part = own(table, top);
@@ -221,5 +221,5 @@ pub fn shared_first(table: &[u32], top: usize) -> bool
     requires { ⌜ SomePart (now table) top ⌝ }
     ensures { λ r. ⌜ Tells r (now (table .entry)) top (fits t8) ⌝ }
 {
-    has_marked(table, top, ALTERNATION, Mark::Alike)
+    has_wanted(table, top, ALTERNATION, Want::Alike)
 }

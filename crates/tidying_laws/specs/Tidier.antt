@@ -57,13 +57,13 @@ unfoldable pub tidyStep : Node → Option Node
 tidyStep r = Option·map (λ t. t .1 .1) (found r)
 
 -- At most n steps, each from the beginning again.
-abbrev pub settle : Node → (Node → Node) → Option Node → Node
-settle r f none = r
-settle r f (some q) = f q
+abbrev pub onward : Node → (Node → Node) → Option Node → Node
+onward r f none = r
+onward r f (some q) = f q
 
 unfoldable pub tidies : ℕ → Node → Node
 tidies zero r = r
-tidies (suc n) r = settle r (λ q. tidies n q) (tidyStep r)
+tidies (suc n) r = onward r (λ q. tidies n q) (tidyStep r)
 
 -- Until no law fits (`Tidy.tidy-none`: the weight is steps enough).
 unfoldable pub tidy : Node → Node

@@ -16,7 +16,7 @@ use Rattle.meaning.specs.Flat.{Flat}
 use Rattle.tidying_laws.specs.Measures.{weight, weighs}
 use Rattle.tidying_laws.specs.Charge.{charge, records, records-bound}
 use Rattle.tidying_laws.specs.List.{laws, words}
-use Rattle.tidying_laws.specs.Tidier.{tidyStep, settle, tidies, tidy}
+use Rattle.tidying_laws.specs.Tidier.{tidyStep, onward, tidies, tidy}
 use Rattle.tidying_laws.specs.Found.{Done, done, no-words}
 use Rattle.tidying_laws.specs.Within.{Stands, everywhere}
 use Rattle.meaning.specs.All.{All}
@@ -61,7 +61,7 @@ by-steps P stop more zero r p h = absurd (omega (arith, weighs r))
 by-steps P stop more (suc n) r p h = by (λ q p h. by-steps P stop more n q p h) (tidyStep r) refl (step-kept r p)
   where
     by : ((q : Node) → Positive (groups q) → weight q ≤ n → P q (tidies n q)) → (o : Option Node) → tidyStep r ≡ o
-        → Ok (Kept r) o → P r (settle r (λ q. tidies n q) o)
+        → Ok (Kept r) o → P r (onward r (λ q. tidies n q) o)
     by ih none e k = stop r e
     by ih (some q) e k = more r q (tidies n q) e k (ih q (subst Positive (k .numbers) p) (omega (arith, k .less)))
 

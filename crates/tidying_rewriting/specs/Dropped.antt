@@ -21,9 +21,9 @@ use Rattle.tidying_laws.specs.Laws.{t7}
 use Rattle.tidying_fitting.specs.Parts.{Tells}
 use Rattle.tidying_fitting.specs.Words.{startOf}
 use Rattle.tidying_fitting.specs.Places.{endOf}
-use Rattle.tidying_fitting.specs.Marks.{without, markedEnd}
-use Rattle.tidying_fitting.specs.declared.Mark.{Mark}
-use Rattle.tidying_fitting.specs.declared.Mark.the-variants.{Void}
+use Rattle.tidying_fitting.specs.Wants.{without, wantedEnd}
+use Rattle.tidying_fitting.specs.declared.Want.{Want}
+use Rattle.tidying_fitting.specs.declared.Want.the-variants.{Void}
 use Rattle.tidying_shapes.specs.Skeleton.{Token, token, rowToken, skeletonIn, skeleton}
 use Rattle.tidying_shapes.specs.Tokens.{Says}
 use Rattle.tidying_shapes.specs.Told.{skeleton-count}
@@ -73,8 +73,8 @@ module _ {table : List ℕ} {n top : ℕ} {before : List ℕ} {x : Node} {l m : 
       rw number at (among-ends front q more series)
 
 -- The numbers of records at which the alternative that goes ends and starts, and how many alternatives there are.
-pub record DropAt (mark : Mark) (n top : ℕ) (x y : Node) (l : List Token) (end from items : ℕ) : Type 0 where
-  pub drop : Drop mark x y
+pub record DropAt (want : Want) (n top : ℕ) (x y : Node) (l : List Token) (end from items : ℕ) : Type 0 where
+  pub drop : Drop want x y
   pub start : from ≡ length l + length (concatMap skeleton (drop .at .front))
   pub gone : end - from ≡ recordCount (drop .at .part)
   pub order : from ≤ end
@@ -83,15 +83,15 @@ pub record DropAt (mark : Mark) (n top : ℕ) (x y : Node) (l : List Token) (end
   pub all : items ≡ length (inner x)
   pub some : 1 ≤ items
 
-module _ (mark : Mark) {table : List ℕ} {n top : ℕ} {before : List ℕ} {x y : Node} {l m : List Token}
-    (fit : Fitting (dropping mark) table n top before x y l m) where
-  drop : Drop mark x y
-  drop = drop-of mark x y (fit .fits)
+module _ (want : Want) {table : List ℕ} {n top : ℕ} {before : List ℕ} {x y : Node} {l m : List Token}
+    (fit : Fitting (dropping want) table n top before x y l m) where
+  drop : Drop want x y
+  drop = drop-of want x y (fit .fits)
 
   abbrev ended : ℕ
   ended = length l + length (concatMap skeleton (drop .at .front)) + recordCount (drop .at .part)
 
-  drop-end : {end : ℕ} → Tells end table top (markedEnd mark top) → end ≡ ended
+  drop-end : {end : ℕ} → Tells end table top (wantedEnd want top) → end ≡ ended
   drop-end t =
       let told = t .by before x (fit .placed .ends) ∙ ap (endOf (top - recordCount x)) (drop .found) in
       omega (
@@ -102,18 +102,18 @@ module _ (mark : Mark) {table : List ℕ} {n top : ℕ} {before : List ℕ} {x y
         front-count (fit .placed) (drop .at .front) (drop .at .part) (drop .at .more) (drop .split),
       )
 
-  drop-ends : {end : ℕ} → Tells end table top (markedEnd mark top)
+  drop-ends : {end : ℕ} → Tells end table top (wantedEnd want top)
       → Ends table end (before ++ concatMap records (drop .at .front)) (drop .at .part)
   drop-ends t =
       rw (drop-end t) (part-ends (fit .placed) (drop .at .front) (drop .at .part) (drop .at .more) (drop .split))
 
-  pub drop-there : {end : ℕ} → Tells end table top (markedEnd mark top) → SomePart table end
+  pub drop-there : {end : ℕ} → Tells end table top (wantedEnd want top) → SomePart table end
   drop-there t =
       record { before = before ++ concatMap records (drop .at .front); part = drop .at .part; ends = drop-ends t }
 
-  pub drop-at : {end from items : ℕ} → Tells end table top (markedEnd mark top)
+  pub drop-at : {end from items : ℕ} → Tells end table top (wantedEnd want top)
       → Tells from table end (startOf end) → items ≡ getD table (recordWords * (top - 1) + itemsWord) 0
-      → DropAt mark n top x y l end from items
+      → DropAt want n top x y l end from items
   drop-at {end} {from} {items} t s e =
       let started : from ≡ end - recordCount (drop .at .part) = s .by _ _ (drop-ends t) in
       let all : items ≡ length (inner x) = e ∙ own-word (fit .placed) itemsWord (omega arith) in
@@ -135,9 +135,9 @@ module _ (mark : Mark) {table : List ℕ} {n top : ℕ} {before : List ℕ} {x y
 each-without : (k : Kind) (a : List Node) (q : Node) (b : List Node) → All (Not k) (a ++ (q ∷ b)) → All (Not k) (a ++ b)
 each-without k a q b h = all-append (Not k) a b (all-left (Not k) a (q ∷ b) h) (all-right (Not k) a (q ∷ b) h .1)
 
-module _ {mark : Mark} {table table′ : List ℕ} {n top n′ end from items : ℕ} {before : List ℕ} {x y : Node}
-    {l m : List Token} (fit : Fitting (dropping mark) table n top before x y l m)
-    (d : DropAt mark n top x y l end from items) (cut : Cut table table′ n from (end - from) n′) where
+module _ {want : Want} {table table′ : List ℕ} {n top n′ end from items : ℕ} {before : List ℕ} {x y : Node}
+    {l m : List Token} (fit : Fitting (dropping want) table n top before x y l m)
+    (d : DropAt want n top x y l end from items) (cut : Cut table table′ n from (end - from) n′) where
   abbrev front : List Node
   front = d .drop .at .front
 
@@ -189,13 +189,13 @@ module _ {mark : Mark} {table table′ : List ℕ} {n top n′ end from items : 
         (rw (← d .drop .split, d .drop .all) (parts-flat alternation x (fit .placed .flat)));
   }
 
-pub drops : (mark : Mark) {table table₁ table₂ : List ℕ} {n top n₁ n₂ end from items : ℕ}
-    → Tells end table top (markedEnd mark top) → Tells from table end (startOf end)
+pub drops : (want : Want) {table table₁ table₂ : List ℕ} {n top n₁ n₂ end from items : ℕ}
+    → Tells end table top (wantedEnd want top) → Tells from table end (startOf end)
     → items ≡ getD table (recordWords * (top - 1) + itemsWord) 0 → Cut table table₁ n from (end - from) n₁
-    → Rejoins table₁ table₂ n₁ (top + n₁ - n) (items - 1) n₂ → Rewrites (dropping mark) table table₂ n top n₂
-drops mark t s e cut c = record {
+    → Rejoins table₁ table₂ n₁ (top + n₁ - n) (items - 1) n₂ → Rewrites (dropping want) table table₂ n top n₂
+drops want t s e cut c = record {
   by = λ before x y l m fit.
-      let d = drop-at mark fit t s e in
+      let d = drop-at want fit t s e in
       rw (d .drop .result) at (joined c (drop-rejoining fit d cut));
 }
 

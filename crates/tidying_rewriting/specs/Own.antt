@@ -10,7 +10,7 @@ use Rattle.table.specs.Table.{recordWords, recordCount, emptyKind, recordsWord,
 use Rattle.table.specs.Laws.{inner, lastOf}
 use Rattle.tidying_shapes.specs.Skeleton.{Token, token, skeletonIn, skeleton, inner-skeleton}
 use Rattle.tidying_shapes.specs.Tokens.{Says}
-use Rattle.tidying_shapes.specs.Edits.{Removed, Marked}
+use Rattle.tidying_shapes.specs.Edits.{Removed, Stamped}
 use Rattle.tidying_shapes.specs.Told.{skeleton-count}
 use Rattle.tidying_rewriting.specs.Rewriting.{Placed, Fitting, SomeFitting, Rewrites, leafToken, Shrinks, ok-some}
 use Rattle.tidying_rewriting.specs.Rewriting.{within, own-word}
@@ -41,7 +41,7 @@ module _ {table : List ℕ} {n top : ℕ} {before : List ℕ} {x : Node} {l m : 
 
   -- Without the records below its own, which says something else then.
   pub shrunk : {table₁ table₂ : List ℕ} {kind : ℕ} (gone : ℕ) → gone ≡ recordCount x - 1
-      → Removed table table₁ n (top - 1 - gone) gone → Marked table₁ table₂ (top - 1 - gone) (leafToken kind)
+      → Removed table table₁ n (top - 1 - gone) gone → Stamped table₁ table₂ (top - 1 - gone) (leafToken kind)
       → Says table₂ (n - gone) (l ++ (leafToken kind ∷ m))
   shrunk gone e r k =
       let few : length inside ≡ gone = omega (arith, inside-count) in

@@ -15,7 +15,7 @@ use Rattle.tidying_laws.specs.Laws.{onParts}
 use Rattle.tidying_laws.specs.Kept.{Ok, ok-two}
 use Rattle.tidying_shapes.specs.Skeleton.{Token, token, rowToken, skeletonIn, skeleton, row-parts, pair-own}
 use Rattle.tidying_shapes.specs.Tokens.{Says}
-use Rattle.tidying_shapes.specs.Edits.{Removed, Marked, Counted}
+use Rattle.tidying_shapes.specs.Edits.{Removed, Stamped, Counted}
 use Rattle.tidying_shapes.specs.Told.{skeleton-count}
 use Rattle.tidying_rewriting.specs.Rewriting.{leafToken}
 
@@ -83,7 +83,7 @@ module _ {table table′ : List ℕ} {n top kept : ℕ} where
       → Rejoins table table′ n top kept n′
   rejoining f = record { by = λ k old l ts m e z s. f k old l ts m (omega (arith, length-append l ts)) z (rw append-assoc s) }
 
-  pub rejoins-none : kept ≡ 0 → Marked table table′ (top - 1) (leafToken emptyKind) → Rejoins table table′ n top kept n
+  pub rejoins-none : kept ≡ 0 → Stamped table table′ (top - 1) (leafToken emptyKind) → Rejoins table table′ n top kept n
   rejoins-none z e = rejoining (λ k old l ts m low none s.
       rw z (rw (none z, append-nil) at (e .says n (l ++ ts) (rowToken k old) m low s)))
 

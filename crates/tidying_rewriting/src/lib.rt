@@ -9,12 +9,12 @@ use table::RECORD_WORDS;
 use table::RECORDS;
 use table::SEQUENCE;
 use table::word;
-use tidying_fitting::Mark;
+use tidying_fitting::Want;
 use tidying_fitting::series::leftmost;
 use tidying_fitting::start;
-use tidying_shapes::mark;
 use tidying_shapes::remove;
 use tidying_shapes::set_items;
+use tidying_shapes::stamp;
 ghost use Prim.Native.Nat.{_+_, _*_, _<_, _≤_};
 ghost use lib.ListN.{length};
 ghost use Rattle.table.specs.Table.{recordWords};
@@ -33,7 +33,7 @@ fn shrink(table: &mut [u32], n: usize, top: usize, kind: u32) -> usize
     let gone = word(table, top, RECORDS) as usize - 1;
     let at = top - 1 - gone;
     remove(table, n, at, gone);
-    mark(table, at, kind, 0, 0, [0u32; 8]);
+    stamp(table, at, kind, 0, 0, [0u32; 8]);
     n - gone
 }
 
@@ -52,7 +52,7 @@ pub fn rejoin(table: &mut [u32], n: usize, top: usize, kept: u32) -> usize
     ensures { λ r. ⌜ Rejoins (now (table .entry)) (now (table .exit)) n top kept r ⌝ }
 {
     if kept == 0 {
-        mark(table, top - 1, EMPTY, 0, 0, [0u32; 8]);
+        stamp(table, top - 1, EMPTY, 0, 0, [0u32; 8]);
         return n;
     }
     if kept == 1 {
@@ -108,7 +108,7 @@ pub fn unnest(table: &mut [u32], n: usize, top: usize) -> usize
 }
 
 // T6 and T7: the leftmost alternative that a law looks for goes. Asked: an alternation that has one stands there.
-pub fn drop_alternative(table: &mut [u32], n: usize, top: usize, sought: Mark) -> usize
+pub fn drop_alternative(table: &mut [u32], n: usize, top: usize, sought: Want) -> usize
     requires { ⌜ SomeFitting (dropping sought) (now table) n top ⌝ }
     ensures { λ r. ⌜ Rewrites (dropping sought) (now (table .entry)) (now (table .exit)) n top r ⌝ }
 {
@@ -127,5 +127,5 @@ pub fn void(table: &mut [u32], n: usize, top: usize) -> usize
     if word(table, top, KIND) == SEQUENCE {
         return shrink(table, n, top, BYTE_SET);
     }
-    drop_alternative(table, n, top, Mark::Void)
+    drop_alternative(table, n, top, Want::Void)
 }

@@ -10,7 +10,7 @@ use Rattle.tidying_shapes.specs.Skeleton.{Token}
 use Rattle.tidying_shapes.specs.Tokens.{tokenAt, tokensFrom}
 use Rattle.tidying_shapes.specs.Laws.{tokens-more, says-from}
 use Rattle.tidying_shapes.specs.Climb.{climb, climb-past, climb-here}
-use Rattle.tidying_shapes.specs.Settling.{Parented}
+use Rattle.tidying_shapes.specs.Merging.{Parented}
 
 module _ (table : List ℕ) (n : ℕ) where
   -- Where the climb from a record on ends, with so many parts since.

@@ -14,7 +14,7 @@ use Rattle.tidying_shapes.specs.Tokens.{tokenAt, Says}
 use Rattle.tidying_shapes.specs.Laws.{token-same, token-right, says-length, says-join, says-first, says-rest, says-only}
 use Rattle.tidying_shapes.specs.Laws.{says-same}
 use Rattle.tidying_shapes.specs.Laws.{says-more, says-at, says-next, above-more}
-use Rattle.tidying_shapes.specs.Edits.{Removed, Inserted, Marked, Counted, withItems}
+use Rattle.tidying_shapes.specs.Edits.{Removed, Inserted, Stamped, Counted, withItems}
 
 -- The first words and words laid behind them say what both say.
 laid : (table : List ℕ) (at : ℕ) {s : List ℕ} {m : ℕ} {l k : List Token} → recordWords * at ≤ length table
@@ -87,13 +87,13 @@ changed {table} {table′} {n} {at} {tok} l old m p s under over long e =
     rw append-assoc at (says-same (take-append-drop (recordWords * (at + 1)) table′) all
     (says-join (length-take-le (recordWords * (at + 1)) table′ (omega (arith, s .room))) upto rest))
 
-pub marked : {table table′ last : List ℕ} (at kind operand items : ℕ) → recordWords * (at + 1) ≤ length table → length last ≡ 8
+pub stamped : {table table′ last : List ℕ} (at kind operand items : ℕ) → recordWords * (at + 1) ≤ length table → length last ≡ 8
     → table′ ≡ paste table (recordWords * at) (
     kind ∷ operand ∷ 0 ∷ items ∷ 0 ∷ 0 ∷ 0 ∷ 0 ∷ getD last 0 0 ∷ getD last 1 0 ∷ getD last 2 0 ∷ getD last 3 0 ∷ getD last 4 0
     ∷ getD last 5 0 ∷ getD last 6 0 ∷ getD last 7 0 ∷ []
     ) recordWords
-    → Marked table table′ at (tokenOf kind operand items last)
-marked {table} {table′} {last} at kind operand items room eight e = record {
+    → Stamped table table′ at (tokenOf kind operand items last)
+stamped {table} {table′} {last} at kind operand items room eight e = record {
   says = λ n l old m p s. changed l old m p s under over long here;
   above = over;
 }

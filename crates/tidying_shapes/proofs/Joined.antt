@@ -1,4 +1,4 @@
--- A part settles: what is known of it and its parent, and what becomes of their tokens. Assumes nothing.
+-- A part merges: what is known of it and its parent, and what becomes of their tokens. Assumes nothing.
 use mathlib.Core.Path.{_≡_, refl, sym, ap, ap₂, subst, _∙_}
 use mathlib.Core.Logic.{_⊎_, ⊎-elim}
 use mathlib.Core.Option.{none, some}
@@ -18,7 +18,7 @@ use Rattle.tidying_shapes.specs.Climb.{away, climbs}
 use Rattle.tidying_shapes.specs.Tokens.{tokenAt, Says}
 use Rattle.tidying_shapes.specs.Laws.{says-length, says-at, above-more}
 use Rattle.tidying_shapes.specs.Edits.{Removed, Counted}
-use Rattle.tidying_shapes.specs.Settling.{Parented, itemsOf, Unsettled, Settled}
+use Rattle.tidying_shapes.specs.Merging.{Parented, itemsOf, Unmerged, Merged}
 
 row-low : (k : Kind) → 5 ≤ rowKind k
 row-low sequence = omega arith
@@ -65,7 +65,7 @@ row-items k r e =
     rw f (ap (λ t. t .items) (row-token k a q) ∙ sym (ap length (pair-parts k a q)))
 
 module _ {table : List ℕ} {n root : ℕ} {before : List Token} {r : Node} {P : Parent none}
-    (u : Unsettled table n root before r P) where
+    (u : Unmerged table n root before r P) where
   -- The part's own record, and where its parent's is.
   own-token : tokenAt table root ≡ token r
   own-token =
@@ -121,11 +121,11 @@ module _ {table : List ℕ} {n root : ℕ} {before : List Token} {r : Node} {P :
 -- Nothing changes where no part of a row is of the row's kind.
 pub stays : {table : List ℕ} {n root : ℕ}
     → ((before : List Token) (r : Node) (k : Kind) (others : ℕ) (later : List Node) (rest : List Token)
-    → Unsettled table n root before r (among k others later rest) → kindOf r ≡ rowKind k → ⊥)
-    → Settled table table n root n
+    → Unmerged table n root before r (among k others later rest) → kindOf r ≡ rowKind k → ⊥)
+    → Merged table table n root n
 stays {table} {n} {root} differs = record { by = go; above = refl; fewer = omega arith }
   where
-    go : (before : List Token) (r : Node) (P : Parent none) → Unsettled table n root before r P
+    go : (before : List Token) (r : Node) (P : Parent none) → Unmerged table n root before r P
         → Says table n (before ++ (skeletonIn (rowOf P) r ++ behind P (width (rowOf P) r)))
     go before r top u = u .says
     go before r (alone tok rest) u = u .says
@@ -135,23 +135,23 @@ stays {table} {n} {root} differs = record { by = go; above = refl; fewer = omega
 
 module _ {table : List ℕ} {n root : ℕ} where
   pub stays-other : (getD table (recordWords * root) 0 < 5) ⊎ (6 < getD table (recordWords * root) 0)
-      → Settled table table n root n
+      → Merged table table n root n
   stays-other h = stays (λ before r k others later rest u e.
       ⊎-elim (λ w. omega (arith, own-kind u, row-low k)) (λ w. omega (arith, own-kind u, row-high k)) h)
 
-  pub stays-whole : {at : ℕ} → Parented table n root at → at ≡ n → Settled table table n root n
+  pub stays-whole : {at : ℕ} → Parented table n root at → at ≡ n → Merged table table n root n
   stays-whole p h = stays (λ before r k others later rest u e.
       omega (arith, parent-at u p, all-records u, length-append (concatMap skeleton later) (rowToken k (others + 1) ∷ rest)))
 
   -- The token of a parent that is a row.
   row-there : {at : ℕ} (before : List Token) (r : Node) (k : Kind) (others : ℕ) (later : List Node) (rest : List Token)
-      → Unsettled table n root before r (among k others later rest) → Parented table n root at
+      → Unmerged table n root before r (among k others later rest) → Parented table n root at
       → tokenAt table at ≡ rowToken k (others + 1)
   row-there before r k others later rest u p =
       ap (tokenAt table) (parent-at u p) ∙ token-behind u (concatMap skeleton later) (rowToken k (others + 1)) rest refl
 
   pub stays-apart : {at : ℕ} → Parented table n root at
-      → (getD table (recordWords * at) 0 ≡ getD table (recordWords * root) 0 → ⊥) → Settled table table n root n
+      → (getD table (recordWords * at) 0 ≡ getD table (recordWords * root) 0 → ⊥) → Merged table table n root n
   stays-apart p h = stays (λ before r k others later rest u e.
       h (ap (λ t. t .kind) (row-there before r k others later rest u p) ∙ sym e ∙ sym (own-kind u)))
 
@@ -170,7 +170,7 @@ module _ {table : List ℕ} {n root at : ℕ} (j : Joins table n root at) where
   InRow (alone tok rest) r = ⊥
   InRow (among k others later rest) r = (kindOf r ≡ rowKind k) × (tokenAt table at ≡ rowToken k (others + 1))
 
-  in-row : (before : List Token) (r : Node) (P : Parent none) → Unsettled table n root before r P → InRow P r
+  in-row : (before : List Token) (r : Node) (P : Parent none) → Unmerged table n root before r P → InRow P r
   in-row before r top u =
       omega (arith, parent-at u (j .parent), j .inside, all-records u)
   in-row before r (alone tok rest) u =
@@ -182,11 +182,11 @@ module _ {table : List ℕ} {n root at : ℕ} (j : Joins table n root at) where
       (sym (own-kind u) ∙ sym (j .same) ∙ ap (λ t. t .kind) there, there)
 
   -- The items of both are one more than the row then has.
-  pub both-items : {before : List Token} {r : Node} {P : Parent none} → Unsettled table n root before r P
+  pub both-items : {before : List Token} {r : Node} {P : Parent none} → Unmerged table n root before r P
       → getD table (recordWords * at + 3) 0 + getD table (recordWords * root + 3) 0 ≡ itemsOf P (width (rowOf P) r) + 1
   both-items {before} {r} {P} u = go P u (in-row before r P u)
     where
-      go : (P : Parent none) → Unsettled table n root before r P → InRow P r
+      go : (P : Parent none) → Unmerged table n root before r P → InRow P r
           → getD table (recordWords * at + 3) 0 + getD table (recordWords * root + 3) 0 ≡ itemsOf P (width (rowOf P) r) + 1
       go top u h = absurd h
       go (alone tok rest) u h = absurd h
@@ -198,7 +198,7 @@ module _ {table : List ℕ} {n root at : ℕ} (j : Joins table n root at) where
       (sum : items + 1 ≡ getD table (recordWords * at + 3) 0 + getD table (recordWords * root + 3) 0)
       (counts : Counted table first at items) (removes : Removed first table′ n root 1) where
     moved : (before : List Token) (r : Node) (k : Kind) (others : ℕ) (later : List Node) (rest : List Token)
-        → Unsettled table n root before r (among k others later rest) → kindOf r ≡ rowKind k
+        → Unmerged table n root before r (among k others later rest) → kindOf r ≡ rowKind k
         → Says table′ (n - 1) (before ++ (skeletonIn (some k) r ++ (concatMap skeleton later ++ (rowToken k items ∷ rest))))
     moved before r k others later rest u e =
         let B : List Token = before ++ skeletonIn (some k) r in
@@ -221,7 +221,7 @@ module _ {table : List ℕ} {n root at : ℕ} (j : Joins table n root at) where
         rw (append-assoc before) at (removes .says B (own ∷ []) (L ++ (rowToken k items ∷ rest)) long refl
         (rw (append-assoc B) at told))
 
-    pub joined : Settled table table′ n root (n - 1)
+    pub joined : Merged table table′ n root (n - 1)
     joined = record {
       by = λ before r P u. go before r P u (in-row before r P u);
       above = removes .above
@@ -229,7 +229,7 @@ module _ {table : List ℕ} {n root at : ℕ} (j : Joins table n root at) where
       fewer = omega arith;
     }
       where
-        go : (before : List Token) (r : Node) (P : Parent none) → Unsettled table n root before r P → InRow P r
+        go : (before : List Token) (r : Node) (P : Parent none) → Unmerged table n root before r P → InRow P r
             → Says table′ (n - 1) (before ++ (skeletonIn (rowOf P) r ++ behind P (width (rowOf P) r)))
         go before r top u h = absurd h
         go before r (alone tok rest) u h = absurd h

@@ -20,7 +20,7 @@ pub record Inserted (table table′ : List ℕ) (n at : ℕ) : Type 0 where
   pub above : drop (recordWords * (n + 1)) table′ ≡ drop (recordWords * (n + 1)) table
 
 -- The record at `at` says this token, and all others what they said.
-pub record Marked (table table′ : List ℕ) (at : ℕ) (tok : Token) : Type 0 where
+pub record Stamped (table table′ : List ℕ) (at : ℕ) (tok : Token) : Type 0 where
   pub says : (n : ℕ) (l : List Token) (old : Token) (m : List Token) → length l ≡ at → Says table n (l ++ (old ∷ m))
       → Says table′ n (l ++ (tok ∷ m))
   pub above : drop (recordWords * (at + 1)) table′ ≡ drop (recordWords * (at + 1)) table

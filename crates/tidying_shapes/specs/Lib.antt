@@ -7,6 +7,6 @@ pub mod Laws
 pub mod Edits
 pub mod Parse
 pub mod Told
-pub mod Settling
+pub mod Merging
 pub mod Fresh
 pub mod Replaced

@@ -1,4 +1,4 @@
--- A part at a place, and another put in its place: the tokens of the pattern before, and after what is put has settled.
+-- A part at a place, and another put in its place: the tokens of the pattern before, and after what is put has merged.
 use mathlib.Core.Path.{_≡_, sym, ap, ap₂, subst, _∙_}
 use mathlib.Core.Option.{none, some}
 use mathlib.Core.List.{List, [], _∷_, _++_, append-assoc}
@@ -18,7 +18,7 @@ use Rattle.tidying_shapes.specs.Placed.{Spots}
 use Rattle.tidying_shapes.specs.Tokens.{Says}
 use Rattle.tidying_shapes.specs.Parse.{rebuilds, rebuilds-few}
 use Rattle.tidying_shapes.specs.Told.{skeleton-count}
-use Rattle.tidying_shapes.specs.Settling.{itemsOf, Unsettled, Settled}
+use Rattle.tidying_shapes.specs.Merging.{itemsOf, Unmerged, Merged}
 
 -- Each of the places, with its number.
 pub spot-of : {r : Node} (n : ℕ) (first : List Place) (p : Place) (rest : List Place) → Spots none r n (first ++ (p ∷ rest))
@@ -72,15 +72,15 @@ module _ {r : Node} {p : Place} {i : ℕ} (s : Spot none r p i) where
           = rebuilds-few first own rest [] (p .put y ∷ []) (rw tokens at (rebuilds (p .put y) proper)) in
           omega (arith, ap length tokens, length-append first (own ∷ rest))
 
-  -- With the tokens of another part in the place of the part's, that part settles, and the tokens are those of what is put.
+  -- With the tokens of another part in the place of the part's, that part merges, and the tokens are those of what is put.
   module _ {table : List ℕ} {n root : ℕ} (y : Node) where
-    pub spot-unsettled : Says table n (concatMap skeleton (s .earlier) ++ (skeleton y ++ behind (s .parent) 1))
+    pub spot-unmerged : Says table n (concatMap skeleton (s .earlier) ++ (skeleton y ++ behind (s .parent) 1))
         → length (concatMap skeleton (s .earlier)) + length (skeleton y) ≡ suc root
         → Proper (p .put y) → recordCount (p .put y) ≤ recordLimit
-        → Unsettled table n root (concatMap skeleton (s .earlier)) y (s .parent)
-    spot-unsettled says here proper small =
+        → Unmerged table n root (concatMap skeleton (s .earlier)) y (s .parent)
+    spot-unmerged says here proper small =
         record { says = says; sound = s .sound; here = here; few = omega (arith, spot-few y proper) }
 
-    pub spot-settled : {table′ : List ℕ} {n′ : ℕ} → Unsettled table n root (concatMap skeleton (s .earlier)) y (s .parent)
-        → Settled table table′ n root n′ → Says table′ n′ (skeleton (p .put y))
-    spot-settled u h = rw (s .put y) (h .by (concatMap skeleton (s .earlier)) y (s .parent) u)
+    pub spot-merged : {table′ : List ℕ} {n′ : ℕ} → Unmerged table n root (concatMap skeleton (s .earlier)) y (s .parent)
+        → Merged table table′ n root n′ → Says table′ n′ (skeleton (p .put y))
+    spot-merged u h = rw (s .put y) (h .by (concatMap skeleton (s .earlier)) y (s .parent) u)

@@ -5,8 +5,8 @@ ghost use Prim.Native.Nat.{_+_, _-_, _*_, _<_, _≤_};
 ghost use lib.ListN.{length};
 ghost use Rattle.table.specs.Table.{recordWords};
 ghost use Rattle.tidying_shapes.specs.Skeleton.{tokenOf};
-ghost use Rattle.tidying_shapes.specs.Edits.{Removed, Inserted, Marked, Counted};
-ghost use Rattle.tidying_shapes.specs.Settling.{Parented, SomeUnsettled, Settled};
+ghost use Rattle.tidying_shapes.specs.Edits.{Removed, Inserted, Stamped, Counted};
+ghost use Rattle.tidying_shapes.specs.Merging.{Parented, SomeUnmerged, Merged};
 ghost use Rattle.tidying_shapes.specs.Fresh.{SomeSaid, Refreshed};
 use table::ALTERNATION;
 use table::ITEMS;
@@ -44,9 +44,9 @@ pub fn insert(table: &mut [u32], n: usize, at: usize)
 }
 
 // The record at `at` becomes one of this kind, operand, number of items and last eight words.
-pub fn mark(table: &mut [u32], at: usize, kind: u32, operand: u32, items: u32, last: [u32; 8])
+pub fn stamp(table: &mut [u32], at: usize, kind: u32, operand: u32, items: u32, last: [u32; 8])
     requires { ⌜ (recordWords * (at + 1) ≤ length (now table)) × (length last ≡ 8) ⌝ }
-    ensures { λ _. ⌜ Marked (now (table .entry)) (now (table .exit)) at (tokenOf kind operand items last) ⌝ }
+    ensures { λ _. ⌜ Stamped (now (table .entry)) (now (table .exit)) at (tokenOf kind operand items last) ⌝ }
 {
     let words = [
         kind,
@@ -98,9 +98,9 @@ pub fn parent(table: &[u32], n: usize, part: usize) -> usize
 
 // A part, whose own record is `root`, becomes a part of its parent: where that is a row of the part's own kind, its own record
 // goes, and its items are the parent's. Answers how many records there are then.
-pub fn settle(table: &mut [u32], n: usize, root: usize) -> usize
-    requires { ⌜ SomeUnsettled (now table) n root ⌝ }
-    ensures { λ r. ⌜ Settled (now (table .entry)) (now (table .exit)) n root r ⌝ }
+pub fn merge(table: &mut [u32], n: usize, root: usize) -> usize
+    requires { ⌜ SomeUnmerged (now table) n root ⌝ }
+    ensures { λ r. ⌜ Merged (now (table .entry)) (now (table .exit)) n root r ⌝ }
 {
     let kind = table[RECORD_WORDS * root];
     if kind < SEQUENCE {

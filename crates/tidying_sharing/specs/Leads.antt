@@ -15,7 +15,7 @@ use Rattle.tidying_laws.specs.Laws.{when, firstSet, restOf, Run, extend, run, g
 use Rattle.tidying_laws.specs.Kept.{Ok, ok-when}
 use Rattle.tidying_fitting.specs.Fitting.{isSome}
 use Rattle.tidying_fitting.specs.Places.{Split, behind, leftmost}
-use Rattle.tidying_fitting.specs.Marks.{beginsWith, alike, follows, begins-own}
+use Rattle.tidying_fitting.specs.Wants.{beginsWith, alike, follows, begins-own}
 
 -- An alternative that begins with a set, and what is left of it: it is the set, or a sequence of the set and more.
 pub data Lead : List ℕ → Node → Node → Type 0 where

@@ -16,8 +16,8 @@ use Rattle.table.specs.Roots.{inside}
 use Rattle.tidying_fitting.specs.Parts.{Tells, room}
 use Rattle.tidying_fitting.specs.Words.{startOf}
 use Rattle.tidying_fitting.specs.Places.{endOf}
-use Rattle.tidying_fitting.specs.Marks.{markedEnd}
-use Rattle.tidying_fitting.specs.declared.Mark.the-variants.{Alike}
+use Rattle.tidying_fitting.specs.Wants.{wantedEnd}
+use Rattle.tidying_fitting.specs.declared.Want.the-variants.{Alike}
 use Rattle.tidying_sharing.specs.Runs.{Behind, SomeBehind, RunEnds}
 use Rattle.tidying_sharing.specs.Shares.{Shares, shares-of, leads}
 
@@ -62,7 +62,7 @@ module _ {table : List ℕ} {top : ℕ} {before : List ℕ} {x y : Node} (s : Sh
   first-ends : Ends table (top - 1 - countAll (k .second ∷ k .more)) (before ++ concatMap records (k .front)) (k .first)
   first-ends = among-ends (k .front) (k .first) (k .second ∷ k .more) series
 
-  module _ {second : ℕ} (t : Tells second table top (markedEnd Alike top)) where
+  module _ {second : ℕ} (t : Tells second table top (wantedEnd Alike top)) where
     second-at : top - 1 - countAll (k .more) ≡ second
     second-at =
         let told : second ≡ top - recordCount x + countAll (k .front ++ (k .first ∷ [])) + recordCount (k .second)
@@ -119,7 +119,7 @@ module _ {table : List ℕ} {top : ℕ} {before : List ℕ} {x y : Node} (s : Sh
             omega (arith, started, all, first-at, room (s .ends) .few)
 
 -- So it is found.
-pub located : {table : List ℕ} {top second first from stop : ℕ} → Tells second table top (markedEnd Alike top)
+pub located : {table : List ℕ} {top second first from stop : ℕ} → Tells second table top (wantedEnd Alike top)
     → Tells first table second (startOf second) → Tells from table first (startOf first) → RunEnds stop table (top - 1) first
     → Located from stop table top
 located t u v e = record {

@@ -16,7 +16,7 @@ use Rattle.table.specs.Stands.{Ends, Series, SomePart}
 use Rattle.tidying_fitting.specs.Parts.{Tells, TellsBoth}
 use Rattle.tidying_fitting.specs.Parts.{room}
 use Rattle.tidying_fitting.specs.Words.{startOf}
-use Rattle.tidying_fitting.specs.Marks.{alike}
+use Rattle.tidying_fitting.specs.Wants.{alike}
 use Rattle.tidying_sharing.specs.Leads.{opening}
 
 -- At `top` end the parts up to q, which ends at `first`, and more.

@@ -14,8 +14,8 @@ use Rattle.table.specs.Laws.{inner}
 use Rattle.tidying_laws.specs.Laws.{firstSet, restOf, run, glues, share, t8}
 use Rattle.tidying_fitting.specs.Fitting.{isSome}
 use Rattle.tidying_fitting.specs.Places.{Split, behind, leftmost}
-use Rattle.tidying_fitting.specs.Marks.{beginsWith, alike, follows, marks, begins-own, share-leftmost}
-use Rattle.tidying_fitting.specs.declared.Mark.the-variants.{Alike}
+use Rattle.tidying_fitting.specs.Wants.{beginsWith, alike, follows, wants, begins-own, share-leftmost}
+use Rattle.tidying_fitting.specs.declared.Want.the-variants.{Alike}
 use Rattle.tidying_shapes.specs.Skeleton.{Token, token, rowToken, skeletonIn, skeleton, glue-row, glue-in, glue-width}
 use Rattle.tidying_rewriting.specs.Rewriting.{ok-some}
 use Rattle.tidying_rewriting.specs.Series.{SeriesOf, series-of, rejoined, rejoined-join, skeletons-append}
@@ -32,7 +32,7 @@ pub record Shares (x y : Node) : Type 0 where
   pub more : List Node
   pub set : List ℕ
   pub split : inner x ≡ front ++ (first ∷ second ∷ more)
-  pub found : leftmost (marks Alike) [] (inner x) ≡ some (record { front = front ++ (first ∷ []); part = second; more = more })
+  pub found : leftmost (wants Alike) [] (inner x) ≡ some (record { front = front ++ (first ∷ []); part = second; more = more })
   pub begins : firstSet (parts sequence first) ≡ some set
   pub result : join alternation (front ++ sharing set (first ∷ second ∷ more)) ≡ y
   pub several : 2 ≤ length (run set (first ∷ second ∷ more) .0)
@@ -58,7 +58,7 @@ shares-of x y e = go (inner x) refl
       more = at .more;
       set = k .set;
       split = is ∙ k .split;
-      found = ap (leftmost (marks Alike) []) is ∙ ap (Option·map (behind p)) found
+      found = ap (leftmost (wants Alike) []) is ∙ ap (Option·map (behind p)) found
           ∙ ap (λ f. some (record { front = f; part = at .part; more = at .more })) (k .here);
       begins = k .begins;
       result = ap (join alternation) (sym (k .result)) ∙ made;

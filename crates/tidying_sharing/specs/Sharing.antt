@@ -14,7 +14,7 @@ use Rattle.meaning.specs.All.{All, all-left, all-right}
 use Rattle.table.specs.Laws.{inner-proper}
 use Rattle.table.specs.Laws.{inner, parts-flat, countAll, count-append, inner-count}
 use Rattle.tidying_laws.specs.Laws.{t8}
-use Rattle.tidying_fitting.specs.Marks.{alike}
+use Rattle.tidying_fitting.specs.Wants.{alike}
 use Rattle.table.specs.Stands.{Series}
 use Rattle.table.specs.Roots.{front-series}
 use Rattle.table.specs.Roots.{inside}

@@ -15,7 +15,7 @@ use Rattle.tidying_shapes.specs.Skeleton.{Token, token, rowToken, skeletonIn, s
 use Rattle.tidying_shapes.specs.Skeleton.{pair-own, pair-row}
 use Rattle.tidying_shapes.specs.Tokens.{tokenAt, Says}
 use Rattle.tidying_shapes.specs.Laws.{says-length, says-at, says-same}
-use Rattle.tidying_shapes.specs.Edits.{Removed, Marked, Counted}
+use Rattle.tidying_shapes.specs.Edits.{Removed, Stamped, Counted}
 use Rattle.tidying_rewriting.specs.Rewriting.{leafToken}
 use Rattle.tidying_sharing.specs.Leads.{Lead, Lead.single, Lead.leading}
 
@@ -167,7 +167,7 @@ module _ {table : List ℕ} {n records : ℕ} {s : List ℕ} {r : Node} {m : Lis
 
 -- So each way to trim.
 module _ {table table₁ : List ℕ} {n records : ℕ} where
-  pub trims-single : records ≡ 1 → Marked table table₁ 0 (leafToken emptyKind) → Trims table table₁ n records n 1
+  pub trims-single : records ≡ 1 → Stamped table table₁ 0 (leafToken emptyKind) → Trims table table₁ n records n 1
   unfolding skeletonIn inner parts
   trims-single e k = record { by = λ s a r m t. go (t .lead) t }
     where

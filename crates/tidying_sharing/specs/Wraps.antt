@@ -9,7 +9,7 @@ use Rattle.table.specs.Table.{setKind}
 use Rattle.tidying_shapes.specs.Skeleton.{Token, rowToken}
 use Rattle.tidying_shapes.specs.Tokens.{Says}
 use Rattle.tidying_shapes.specs.Laws.{says-same}
-use Rattle.tidying_shapes.specs.Edits.{Inserted, Marked}
+use Rattle.tidying_shapes.specs.Edits.{Inserted, Stamped}
 
 abbrev pub setToken : List ℕ → Token
 setToken set = record { kind = setKind; operand = 0; items = 0; last = set }
@@ -19,14 +19,14 @@ pub record Wraps (table table′ : List ℕ) (n start end parts : ℕ) (set : Li
       → Says table′ n′ (l ++ (setToken set ∷ (ts ++ (rowToken alternation parts ∷ rowToken sequence 2 ∷ m))))
 
 -- Room for a record at a place, which says a token then.
-put : {table table₁ table₂ : List ℕ} {n at : ℕ} {tok : Token} → Inserted table table₁ n at → Marked table₁ table₂ at tok
+put : {table table₁ table₂ : List ℕ} {n at : ℕ} {tok : Token} → Inserted table table₁ n at → Stamped table₁ table₂ at tok
     → (l m : List Token) → length l ≡ at → Says table n (l ++ m) → Says table₂ (n + 1) (l ++ (tok ∷ m))
 put {n = n} i k l m e s = k .says (n + 1) l (i .room) m e (i .says l m e s)
 
 pub wraps : {table a a′ b b′ c c′ : List ℕ} {n start end parts : ℕ} {set : List ℕ}
-    → Inserted table a n end → Marked a a′ end (rowToken sequence 2)
-    → Inserted a′ b (n + 1) end → Marked b b′ end (rowToken alternation parts)
-    → Inserted b′ c (n + 2) start → Marked c c′ start (setToken set) → Wraps table c′ n start end parts set (n + 3)
+    → Inserted table a n end → Stamped a a′ end (rowToken sequence 2)
+    → Inserted a′ b (n + 1) end → Stamped b b′ end (rowToken alternation parts)
+    → Inserted b′ c (n + 2) start → Stamped c c′ start (setToken set) → Wraps table c′ n start end parts set (n + 3)
 wraps {a′ = a′} {b′ = b′} {c′ = c′} {n} {start} {end} {parts} {set} i k i′ k′ i″ k″ = record {
   by = λ l ts m low high s.
       let at : length (l ++ ts) ≡ end = omega (arith, length-append l ts) in

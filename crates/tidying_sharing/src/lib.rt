@@ -9,15 +9,15 @@ use table::KIND;
 use table::RECORD_WORDS;
 use table::SEQUENCE;
 use table::word;
-use tidying_fitting::Mark;
+use tidying_fitting::Want;
 use tidying_fitting::series::begins_alike;
 use tidying_fitting::series::leftmost;
 use tidying_fitting::start;
 use tidying_rewriting::rejoin;
 use tidying_shapes::insert;
-use tidying_shapes::mark;
 use tidying_shapes::remove;
 use tidying_shapes::set_items;
+use tidying_shapes::stamp;
 ghost use mathlib.Core.Path.{_≡_};
 ghost use Prim.Native.Nat.{_+_, _*_, _≤_};
 ghost use lib.ListN.{length};
@@ -57,7 +57,7 @@ fn trim(table: &mut [u32], n: usize, records: usize) -> Trimmed
     ensures { λ r. ⌜ Trims (now (table .entry)) (now (table .exit)) n records (r .n) (r .parts) ⌝ }
 {
     if records == 1 {
-        mark(table, 0, EMPTY, 0, 0, [0u32; 8]);
+        stamp(table, 0, EMPTY, 0, 0, [0u32; 8]);
         return Trimmed { n, parts: 1 };
     }
     let items = word(table, records, ITEMS);
@@ -115,7 +115,7 @@ fn leftmost_run(table: &[u32], top: usize) -> Run
     requires { ⌜ SomeSharing (now table) top ⌝ }
     ensures { λ r. ⌜ Located (r .from) (r .stop) (now (table .entry)) top ⌝ }
 {
-    let second = leftmost(table, top, Mark::Alike);
+    let second = leftmost(table, top, Want::Alike);
     let first = start(table, second);
     let from = start(table, first);
     Run {
@@ -155,11 +155,11 @@ fn wrap(table: &mut [u32], n: usize, start: usize, end: usize, parts: u32, set: 
     ensures { λ r. ⌜ Wraps (now (table .entry)) (now (table .exit)) n start end parts set r ⌝ }
 {
     insert(table, n, end);
-    mark(table, end, SEQUENCE, 0, 2, [0u32; 8]);
+    stamp(table, end, SEQUENCE, 0, 2, [0u32; 8]);
     insert(table, n + 1, end);
-    mark(table, end, ALTERNATION, 0, parts, [0u32; 8]);
+    stamp(table, end, ALTERNATION, 0, parts, [0u32; 8]);
     insert(table, n + 2, start);
-    mark(table, start, BYTE_SET, 0, 0, set);
+    stamp(table, start, BYTE_SET, 0, 0, set);
     n + 3
 }
 

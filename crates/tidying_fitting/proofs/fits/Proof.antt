@@ -2,7 +2,7 @@
 use borrow.Author.Needs.{needs}
 use Rattle.tidying_laws.specs.List.{laws}
 use Rattle.tidying_laws.specs.ByNumber.{lawCount, lawOf, none-of}
-use Rattle.tidying_fitting.proofs.Marked.{as-law, as-none}
+use Rattle.tidying_fitting.proofs.Wanted.{as-law, as-none}
 use Rattle.tidying_fitting.proofs.fits.Statement.{statement}
 use Rattle.tidying_fitting.proofs.fits.Tie as tie
 

@@ -5,7 +5,7 @@ use Rattle.tidying_rewriting.proofs.rejoin.Statement.{statement}
 use Rattle.tidying_rewriting.proofs.rejoin.Tie as tie
 
 returns : tie.Need-returns
-returns c = rejoins-none (c .before .before .before .before .if1 .taken) (c .before .before .mark .ensures)
+returns c = rejoins-none (c .before .before .before .before .if1 .taken) (c .before .before .stamp .ensures)
 
 returns-2 : tie.Need-returns-2
 returns-2 c = rejoins-one (c .before .before .before .before .if2 .taken) (c .before .before .remove .ensures)

@@ -23,8 +23,8 @@ sub-at-2 c = omega (arith, block (c .before .before .before .pre .placed) (c .wo
 remove-requires : tie.Need-remove-requires
 remove-requires c κs = omega (arith, block (c .before .before .before .before .pre .placed) (c .before .word .ensures))
 
-mark-requires : tie.Need-mark-requires
-mark-requires c κs =
+stamp-requires : tie.Need-stamp-requires
+stamp-requires c κs =
     let word = c .before .before .before .before .before in
     omega (arith, block (word .before .before .before .pre .placed) (word .word .ensures))
 
@@ -35,13 +35,13 @@ sub-result c =
 
 returns : tie.Need-returns
 returns c =
-    let mark = c .before .before in
-    let remove = mark .before .before .before .before in
+    let stamped = c .before .before in
+    let remove = stamped .before .before .before .before in
     let word = remove .before .before .word in
     record {
       by = λ before x l m p.
           shrunk p (word .result - 1) (ap (λ k. k - 1) (block p (word .ensures) .0)) (remove .remove .ensures)
-          (mark .mark .ensures);
+          (stamped .stamp .ensures);
     }
 
 pub shrink-spec : {M : Type 1} → statement M
@@ -54,7 +54,7 @@ shrink-spec =
     sub-at
     sub-at-2
     remove-requires
-    mark-requires
+    stamp-requires
     sub-result
     (λ c. search needs)
     returns)

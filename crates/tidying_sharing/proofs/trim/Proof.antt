@@ -6,9 +6,9 @@ use Rattle.tidying_sharing.proofs.trim.Tie as tie
 
 returns : tie.Need-returns
 returns c =
-    let marked = c .before .before in
-    let more = marked .before .before in
-    trims-single (more .if1 .taken) (marked .mark .ensures)
+    let stamped = c .before .before in
+    let more = stamped .before .before in
+    trims-single (more .if1 .taken) (stamped .stamp .ensures)
 
 returns-2 : tie.Need-returns-2
 returns-2 c =

@@ -12,8 +12,8 @@ returns c =
     let two = alternation .before .before .before .before in
     let sequence = two .before .before .before .before in
     let one = sequence .before .before .before .before in
-    wraps (one .insert .ensures) (sequence .mark .ensures) (two .insert2 .ensures)
-    (alternation .mark2 .ensures) (three .insert3 .ensures) (set .mark3 .ensures)
+    wraps (one .insert .ensures) (sequence .stamp .ensures) (two .insert2 .ensures)
+    (alternation .stamp2 .ensures) (three .insert3 .ensures) (set .stamp3 .ensures)
 
 pub wrap-spec : {M : Type 1} → statement M
 wrap-spec =

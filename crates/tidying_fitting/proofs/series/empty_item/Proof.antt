@@ -4,14 +4,14 @@ use borrow.Author.Needs.{needs}
 use Rattle.table.specs.Table.{sequenceKind}
 use Rattle.tidying_laws.specs.Laws.{t1}
 use Rattle.tidying_fitting.specs.Fitting.{fits}
-use Rattle.tidying_fitting.specs.Marks.{hasMarked, t1-marked}
-use Rattle.tidying_fitting.specs.declared.Mark.the-variants.{Empty}
+use Rattle.tidying_fitting.specs.Wants.{hasWanted, t1-wanted}
+use Rattle.tidying_fitting.specs.declared.Want.the-variants.{Empty}
 use Rattle.tidying_fitting.proofs.Told.{by-test}
 use Rattle.tidying_fitting.proofs.series.empty_item.Statement.{statement}
 use Rattle.tidying_fitting.proofs.series.empty_item.Tie as tie
 
 returns : tie.Need-returns
-returns c = by-test (hasMarked sequenceKind Empty) (fits t1) (λ r. sym (t1-marked r)) ((c .has-marked) .ensures)
+returns c = by-test (hasWanted sequenceKind Empty) (fits t1) (λ r. sym (t1-wanted r)) ((c .has-wanted) .ensures)
 
 pub empty-item-spec : {M : Type 1} → statement M
 empty-item-spec =

@@ -4,14 +4,14 @@ use borrow.Author.Needs.{needs}
 use Rattle.table.specs.Table.{alternationKind}
 use Rattle.tidying_laws.specs.Laws.{t6}
 use Rattle.tidying_fitting.specs.Fitting.{fits}
-use Rattle.tidying_fitting.specs.Marks.{hasMarked, t6-marked}
-use Rattle.tidying_fitting.specs.declared.Mark.the-variants.{Equal}
+use Rattle.tidying_fitting.specs.Wants.{hasWanted, t6-wanted}
+use Rattle.tidying_fitting.specs.declared.Want.the-variants.{Equal}
 use Rattle.tidying_fitting.proofs.Told.{by-test}
 use Rattle.tidying_fitting.proofs.series.equal_alternative.Statement.{statement}
 use Rattle.tidying_fitting.proofs.series.equal_alternative.Tie as tie
 
 returns : tie.Need-returns
-returns c = by-test (hasMarked alternationKind Equal) (fits t6) (λ r. sym (t6-marked r)) ((c .has-marked) .ensures)
+returns c = by-test (hasWanted alternationKind Equal) (fits t6) (λ r. sym (t6-wanted r)) ((c .has-wanted) .ensures)
 
 pub equal-alternative-spec : {M : Type 1} → statement M
 equal-alternative-spec =

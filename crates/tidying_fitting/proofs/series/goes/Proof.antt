@@ -1,7 +1,7 @@
 -- A part with a group stays, and one without goes if it equals an earlier one.
 use borrow.Author.Needs.{needs}
 use Rattle.tidying_fitting.proofs.Walked.{last-asked}
-use Rattle.tidying_fitting.proofs.Marked.{grouped-told, ungrouped-told}
+use Rattle.tidying_fitting.proofs.Wanted.{grouped-told, ungrouped-told}
 use Rattle.tidying_fitting.proofs.series.goes.Statement.{statement}
 use Rattle.tidying_fitting.proofs.series.goes.Tie as tie
 

@@ -4,14 +4,14 @@ use borrow.Author.Needs.{needs}
 use Rattle.table.specs.Table.{alternationKind}
 use Rattle.tidying_laws.specs.Laws.{t8}
 use Rattle.tidying_fitting.specs.Fitting.{fits}
-use Rattle.tidying_fitting.specs.Marks.{hasMarked, t8-marked}
-use Rattle.tidying_fitting.specs.declared.Mark.the-variants.{Alike}
+use Rattle.tidying_fitting.specs.Wants.{hasWanted, t8-wanted}
+use Rattle.tidying_fitting.specs.declared.Want.the-variants.{Alike}
 use Rattle.tidying_fitting.proofs.Told.{by-test}
 use Rattle.tidying_fitting.proofs.series.shared_first.Statement.{statement}
 use Rattle.tidying_fitting.proofs.series.shared_first.Tie as tie
 
 returns : tie.Need-returns
-returns c = by-test (hasMarked alternationKind Alike) (fits t8) (λ r. sym (t8-marked r)) ((c .has-marked) .ensures)
+returns c = by-test (hasWanted alternationKind Alike) (fits t8) (λ r. sym (t8-wanted r)) ((c .has-wanted) .ensures)
 
 pub shared-first-spec : {M : Type 1} → statement M
 shared-first-spec =

@@ -18,10 +18,10 @@ use Rattle.table.specs.Roots.{last-ends}
 use Rattle.tidying_fitting.specs.Parts.{Tells, TellsLast}
 use Rattle.tidying_fitting.specs.Words.{ownOf, free-highest, empty-kind}
 use Rattle.tidying_fitting.specs.Places.{leftmost}
-use Rattle.tidying_fitting.specs.Marks.{repeats, goes, marks, markedEnd, hasMarked, t7-marked}
+use Rattle.tidying_fitting.specs.Wants.{repeats, goes, wants, wantedEnd, hasWanted, t7-wanted}
 use Rattle.tidying_fitting.specs.declared.Record.{Record}
-use Rattle.tidying_fitting.specs.declared.Mark.{Mark}
-use Rattle.tidying_fitting.specs.declared.Mark.the-variants.{Void}
+use Rattle.tidying_fitting.specs.declared.Want.{Want}
+use Rattle.tidying_fitting.specs.declared.Want.the-variants.{Void}
 use Rattle.tidying_fitting.proofs.Walked.{found-some}
 
 module _ {table : List ℕ} {top : ℕ} where
@@ -51,40 +51,40 @@ module _ {table : List ℕ} {top : ℕ} where
   }
 
   -- A part of another kind has none, and one of the kind has one exactly if the walk found it.
-  pub kind-differs : (kind : ℕ) (mark : Mark) {o : Record} → Tells o table top ownOf → (o .kind ≡ kind → ⊥) → Tells false
-      table top (hasMarked kind mark)
-  kind-differs kind mark t h = record {
+  pub kind-differs : (kind : ℕ) (want : Want) {o : Record} → Tells o table top ownOf → (o .kind ≡ kind → ⊥) → Tells false
+      table top (hasWanted kind want)
+  kind-differs kind want t h = record {
     by = λ before r p.
-        sym (ap (λ b. b && isSome (leftmost (marks mark) [] (inner r)))
+        sym (ap (λ b. b && isSome (leftmost (wants want) [] (inner r)))
         (ne-eqb (kindOf r) kind (λ e. h (ap (λ d. d .kind) (t .by before r p) ∙ e))));
   }
 
-  pub found-told : (kind : ℕ) (mark : Mark) {o : Record} → Tells o table top ownOf → o .kind ≡ kind → {n : ℕ} → Tells n table
-      top (markedEnd mark top)
-      → Tells (not (eqb n 0)) table top (hasMarked kind mark)
-  found-told kind mark t e u = record {
+  pub found-told : (kind : ℕ) (want : Want) {o : Record} → Tells o table top ownOf → o .kind ≡ kind → {n : ℕ} → Tells n table
+      top (wantedEnd want top)
+      → Tells (not (eqb n 0)) table top (hasWanted kind want)
+  found-told kind want t e u = record {
     by = λ before r p.
-        ap (λ n. not (eqb n 0)) (u .by before r p) ∙ found-some (top - recordCount r) (leftmost (marks mark) [] (inner r))
-        ∙ sym (ap (λ b. b && isSome (leftmost (marks mark) [] (inner r)))
+        ap (λ n. not (eqb n 0)) (u .by before r p) ∙ found-some (top - recordCount r) (leftmost (wants want) [] (inner r))
+        ∙ sym (ap (λ b. b && isSome (leftmost (wants want) [] (inner r)))
         (eq-eqb (kindOf r) kind (sym (ap (λ d. d .kind) (t .by before r p)) ∙ e)));
   }
 
   -- T7: among alternatives, or among the items of a sequence without groups.
-  module _ {a : Bool} (t : Tells a table top (hasMarked alternationKind Void)) where
+  module _ {a : Bool} (t : Tells a table top (hasWanted alternationKind Void)) where
     alternatives : (r : Node) (before : List ℕ) → Ends table top before r → fits t7 r ≡
-        (a || (hasMarked sequenceKind Void r && eqb (hi r) 0))
+        (a || (hasWanted sequenceKind Void r && eqb (hi r) 0))
     alternatives r before p =
-        t7-marked r (p .proper) ∙ ap (λ b. b || (hasMarked 5 Void r && eqb (hi r) 0)) (sym (t .by before r p))
+        t7-wanted r (p .proper) ∙ ap (λ b. b || (hasWanted 5 Void r && eqb (hi r) 0)) (sym (t .by before r p))
 
     pub void-alternative : a ≡ true → Tells true table top (fits t7)
     void-alternative e = record {
-      by = λ before r p. sym (alternatives r before p ∙ ap (λ b. b || (hasMarked sequenceKind Void r && eqb (hi r) 0)) e);
+      by = λ before r p. sym (alternatives r before p ∙ ap (λ b. b || (hasWanted sequenceKind Void r && eqb (hi r) 0)) e);
     }
 
-    module _ (e : a ≡ false) {b : Bool} (u : Tells b table top (hasMarked sequenceKind Void)) where
+    module _ (e : a ≡ false) {b : Bool} (u : Tells b table top (hasWanted sequenceKind Void)) where
       items : (r : Node) (before : List ℕ) → Ends table top before r → fits t7 r ≡ (b && eqb (hi r) 0)
       items r before p =
-          alternatives r before p ∙ ap (λ b. b || (hasMarked sequenceKind Void r && eqb (hi r) 0)) e
+          alternatives r before p ∙ ap (λ b. b || (hasWanted sequenceKind Void r && eqb (hi r) 0)) e
           ∙ ap (λ b. b && eqb (hi r) 0) (sym (u .by before r p))
 
       pub no-void : b ≡ false → Tells false table top (fits t7)
@@ -96,12 +96,12 @@ module _ {table : List ℕ} {top : ℕ} where
             ap (λ d. eqb (d .highest) 0) (t .by before r p) ∙ sym (items r before p ∙ ap (λ b. b && eqb (hi r) 0) f);
       }
 
--- What is told for the mark that is looked for is told for the one that was named.
-pub as-mark : {table : List ℕ} {top items : ℕ} {b : Bool} {mark : Mark} (v : Mark) → mark ≡ v
-    → TellsLast b table top items (λ front q. marks v (past front []) q)
-    → TellsLast b table top items (λ front q. marks mark (past front []) q)
-as-mark {table} {top} {items} {b} v e t =
-    subst (λ (m : Mark). TellsLast b table top items (λ front q. marks m (past front []) q)) (sym e) t
+-- What is told for the want that is looked for is told for the one that was named.
+pub as-want : {table : List ℕ} {top items : ℕ} {b : Bool} {want : Want} (v : Want) → want ≡ v
+    → TellsLast b table top items (λ front q. wants v (past front []) q)
+    → TellsLast b table top items (λ front q. wants want (past front []) q)
+as-want {table} {top} {items} {b} v e t =
+    subst (λ (m : Want). TellsLast b table top items (λ front q. wants m (past front []) q)) (sym e) t
 
 -- What is told of a law is told of its number, and of a number that no law has that it fits nothing.
 pub as-law : {table : List ℕ} {top : ℕ} {b : Bool} {k : ℕ} (v : ℕ) → k ≡ v → Tells b table top (fits (lawOf v))

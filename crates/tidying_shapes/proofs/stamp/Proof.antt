@@ -1,9 +1,9 @@
 use borrow.Author.Needs.{needs}
-use Rattle.tidying_shapes.proofs.Edited.{marked}
-use Rattle.tidying_shapes.proofs.mark.Statement.{statement}
-use Rattle.tidying_shapes.proofs.mark.Tie as tie
-use Rattle.tidying_shapes.proofs.mark.Reads as reads
-use Rattle.tidying_shapes.proofs.mark.Lts as lts
+use Rattle.tidying_shapes.proofs.Edited.{stamped}
+use Rattle.tidying_shapes.proofs.stamp.Statement.{statement}
+use Rattle.tidying_shapes.proofs.stamp.Tie as tie
+use Rattle.tidying_shapes.proofs.stamp.Reads as reads
+use Rattle.tidying_shapes.proofs.stamp.Lts as lts
 use Rattle.table.proofs.copy.Reads as copy-reads
 
 array-read-t11 : tie.Need-array-read-t11
@@ -43,10 +43,10 @@ returns : tie.Need-returns
 returns c =
     let start = c .before .before .before .before .before .before in
     let a = start .args in
-    marked (a .at) (a .kind) (a .operand) (a .items) (start .pre .0) (start .pre .1) (c .before .before .copy .ensures)
+    stamped (a .at) (a .kind) (a .operand) (a .items) (start .pre .0) (start .pre .1) (c .before .before .copy .ensures)
 
-pub mark-spec : {M : Type 1} → statement M
-mark-spec =
+pub stamp-spec : {M : Type 1} → statement M
+stamp-spec =
     tie.close
     (tie.spec
     array-read-t11

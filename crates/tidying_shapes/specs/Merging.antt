@@ -1,4 +1,4 @@
--- What the parent of a part is, and what it is for a part to settle: its own record goes where its parent is a row of its kind.
+-- What the parent of a part is, and what it is for a part to merge: its own record goes where its parent is a row of its kind.
 use mathlib.Core.Path.{_≡_}
 use mathlib.Core.Option.{none}
 use mathlib.Core.List.{List, _++_}
@@ -25,21 +25,21 @@ itemsOf (alone tok rest) m = 1
 itemsOf (among k others later rest) m = others + m
 
 -- A part whose own record is `root` stands among the tokens as it stands alone, with its parent behind it.
-pub record Unsettled (table : List ℕ) (n root : ℕ) (before : List Token) (r : Node) (P : Parent none) : Type 0 where
+pub record Unmerged (table : List ℕ) (n root : ℕ) (before : List Token) (r : Node) (P : Parent none) : Type 0 where
   pub says : Says table n (before ++ (skeleton r ++ behind P 1))
   pub sound : Sound P
   pub here : length before + length (skeleton r) ≡ suc root
   pub few : itemsOf P (width (rowOf P) r) ≤ recordLimit
 
-pub record SomeUnsettled (table : List ℕ) (n root : ℕ) : Type 0 where
+pub record SomeUnmerged (table : List ℕ) (n root : ℕ) : Type 0 where
   pub before : List Token
   pub part : Node
   pub parent : Parent none
-  pub unsettled : Unsettled table n root before part parent
+  pub unmerged : Unmerged table n root before part parent
 
 -- Any such part then stands as a part of its parent.
-pub record Settled (table table′ : List ℕ) (n root n′ : ℕ) : Type 0 where
-  pub by : (before : List Token) (r : Node) (P : Parent none) → Unsettled table n root before r P
+pub record Merged (table table′ : List ℕ) (n root n′ : ℕ) : Type 0 where
+  pub by : (before : List Token) (r : Node) (P : Parent none) → Unmerged table n root before r P
       → Says table′ n′ (before ++ (skeletonIn (rowOf P) r ++ behind P (width (rowOf P) r)))
   pub above : drop (recordWords * n) table′ ≡ drop (recordWords * n) table
   pub fewer : n′ ≤ n

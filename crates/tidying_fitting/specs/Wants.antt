@@ -20,8 +20,8 @@ use Rattle.tidying_laws.specs.Laws.{distinct, possible, share, t1, t6, t7, t8}
 use Rattle.tidying_fitting.specs.Fitting.{isSome, fits}
 use Rattle.tidying_fitting.specs.Words.{free-highest, when-some}
 use Rattle.tidying_fitting.specs.Places.{Split, behind, Test, leftmost, endOf}
-use Rattle.tidying_fitting.specs.declared.Mark.{Mark}
-use Rattle.tidying_fitting.specs.declared.Mark.the-variants.{Empty, Equal, Void, Alike}
+use Rattle.tidying_fitting.specs.declared.Want.{Want}
+use Rattle.tidying_fitting.specs.declared.Want.the-variants.{Empty, Equal, Void, Alike}
 
 -- T6: a part without groups that equals an earlier one.
 abbrev pub repeats : Test
@@ -43,18 +43,18 @@ follows [] r = false
 follows (p ∷ seen) r = alike p r
 
 -- What is looked for.
-abbrev pub marks : Mark → Test
-marks Empty seen r = isEmpty r
-marks Equal seen r = goes seen r
-marks Void seen r = isVoid r
-marks Alike seen r = follows seen r
+abbrev pub wants : Want → Test
+wants Empty seen r = isEmpty r
+wants Equal seen r = goes seen r
+wants Void seen r = isVoid r
+wants Alike seen r = follows seen r
 
 -- Where the leftmost such part of the part that ends at `top` ends, 0 if there is none; and whether a part of a kind has one.
-abbrev pub markedEnd : Mark → ℕ → Node → ℕ
-markedEnd mark top r = endOf (top - recordCount r) (leftmost (marks mark) [] (inner r))
+abbrev pub wantedEnd : Want → ℕ → Node → ℕ
+wantedEnd want top r = endOf (top - recordCount r) (leftmost (wants want) [] (inner r))
 
-abbrev pub hasMarked : ℕ → Mark → Node → Bool
-hasMarked kind mark r = eqb (kindOf r) kind && isSome (leftmost (marks mark) [] (inner r))
+abbrev pub hasWanted : ℕ → Want → Node → Bool
+hasWanted kind want r = eqb (kindOf r) kind && isSome (leftmost (wants want) [] (inner r))
 
 -- A list without the part at which it is taken apart.
 abbrev pub without : Split → List Node
@@ -73,10 +73,10 @@ distinct-leftmost seen (r ∷ l) = rw (distinct-leftmost (r ∷ seen) l) (go (go
     go false none = refl
     go false (some s) = refl
 
-pub possible-leftmost : (seen l : List Node) → possible l ≡ Option·map without (leftmost (marks Void) seen l)
+pub possible-leftmost : (seen l : List Node) → possible l ≡ Option·map without (leftmost (wants Void) seen l)
 unfolding possible leftmost
 possible-leftmost seen [] = refl
-possible-leftmost seen (r ∷ l) = rw (possible-leftmost (r ∷ seen) l) (go (isVoid r) (leftmost (marks Void) (r ∷ seen) l))
+possible-leftmost seen (r ∷ l) = rw (possible-leftmost (r ∷ seen) l) (go (isVoid r) (leftmost (wants Void) (r ∷ seen) l))
   where
     go : (b : Bool) (o : Option Split)
         → cond b (some l) (Option·map (λ m. r ∷ m) (Option·map without o))
@@ -163,41 +163,41 @@ share-leftmost seen r (q ∷ l) =
 two-parts : {A : Type 0} (k : Kind) (f : List Node → Option A) (r q : Node) → two f (r ∷ parts k q) ≡ f (r ∷ parts k q)
 two-parts k f r q = by-parts k (λ q l. two f (r ∷ l) ≡ f (r ∷ l)) (λ q n. refl) (λ p q l e. refl) q
 
-pub t1-marked : (r : Node) → fits t1 r ≡ hasMarked sequenceKind Empty r
+pub t1-wanted : (r : Node) → fits t1 r ≡ hasWanted sequenceKind Empty r
 unfolding parts inner
-t1-marked empty = refl
-t1-marked (bset s) = refl
-t1-marked (assert a) = refl
-t1-marked (group k r) = refl
-t1-marked (seq r q) = let l : List Node = r ∷ parts sequence q in
+t1-wanted empty = refl
+t1-wanted (bset s) = refl
+t1-wanted (assert a) = refl
+t1-wanted (group k r) = refl
+t1-wanted (seq r q) = let l : List Node = r ∷ parts sequence q in
     ap isSome (two-parts sequence (λ l. when (any isEmpty l) (join sequence (filled l))) r q)
     ∙ when-some (any isEmpty l) (join sequence (filled l)) ∙ any-leftmost isEmpty [] l
-t1-marked (alt r q) = refl
-t1-marked (many n e lazy r) = refl
+t1-wanted (alt r q) = refl
+t1-wanted (many n e lazy r) = refl
 
-pub t6-marked : (r : Node) → fits t6 r ≡ hasMarked alternationKind Equal r
+pub t6-wanted : (r : Node) → fits t6 r ≡ hasWanted alternationKind Equal r
 unfolding parts inner
-t6-marked empty = refl
-t6-marked (bset s) = refl
-t6-marked (assert a) = refl
-t6-marked (group k r) = refl
-t6-marked (seq r q) = refl
-t6-marked (alt r q) = let l : List Node = r ∷ parts alternation q in
+t6-wanted empty = refl
+t6-wanted (bset s) = refl
+t6-wanted (assert a) = refl
+t6-wanted (group k r) = refl
+t6-wanted (seq r q) = refl
+t6-wanted (alt r q) = let l : List Node = r ∷ parts alternation q in
     ap isSome (two-parts alternation (λ l. Option·map (join alternation) (distinct [] l)) r q)
     ∙ map-some (join alternation) (distinct [] l) ∙ ap isSome (distinct-leftmost [] l) ∙ map-some without (leftmost goes [] l)
-t6-marked (many n e lazy r) = refl
+t6-wanted (many n e lazy r) = refl
 
-pub t8-marked : (r : Node) → fits t8 r ≡ hasMarked alternationKind Alike r
+pub t8-wanted : (r : Node) → fits t8 r ≡ hasWanted alternationKind Alike r
 unfolding parts inner
-t8-marked empty = refl
-t8-marked (bset s) = refl
-t8-marked (assert a) = refl
-t8-marked (group k r) = refl
-t8-marked (seq r q) = refl
-t8-marked (alt r q) = let l : List Node = parts alternation q in
+t8-wanted empty = refl
+t8-wanted (bset s) = refl
+t8-wanted (assert a) = refl
+t8-wanted (group k r) = refl
+t8-wanted (seq r q) = refl
+t8-wanted (alt r q) = let l : List Node = parts alternation q in
     ap isSome (two-parts alternation (λ l. Option·map (join alternation) (share l)) r q)
     ∙ map-some (join alternation) (share (r ∷ l)) ∙ share-leftmost [] r l ∙ sym (leftmost-more follows [] r l)
-t8-marked (many n e lazy r) = refl
+t8-wanted (many n e lazy r) = refl
 
 and-comm : (a b : Bool) → (a && b) ≡ (b && a)
 and-comm true true = refl
@@ -205,19 +205,19 @@ and-comm true false = refl
 and-comm false true = refl
 and-comm false false = refl
 
-pub t7-marked : (r : Node) → Proper r → fits t7 r ≡ (hasMarked 6 Void r || (hasMarked 5 Void r && eqb (hi r) 0))
+pub t7-wanted : (r : Node) → Proper r → fits t7 r ≡ (hasWanted 6 Void r || (hasWanted 5 Void r && eqb (hi r) 0))
 unfolding parts inner
-t7-marked empty h = refl
-t7-marked (bset s) h = refl
-t7-marked (assert a) h = refl
-t7-marked (group k r) h = refl
-t7-marked (seq r q) h = let l : List Node = r ∷ parts sequence q in
+t7-wanted empty h = refl
+t7-wanted (bset s) h = refl
+t7-wanted (assert a) h = refl
+t7-wanted (group k r) h = refl
+t7-wanted (seq r q) h = let l : List Node = r ∷ parts sequence q in
     ap isSome (two-parts sequence (λ l. when (groupFree (seq r q) && any isVoid l) (bset void)) r q)
     ∙ when-some (groupFree (seq r q) && any isVoid l) (bset void) ∙ and-comm (groupFree (seq r q)) (any isVoid l)
     ∙ rw (free-highest (seq r q) (proper-positive (seq r q) h), any-leftmost isVoid [] l)
-t7-marked (alt r q) h = let l : List Node = r ∷ parts alternation q in
+t7-wanted (alt r q) h = let l : List Node = r ∷ parts alternation q in
     ap (λ o. isSome (orElse o none)) (two-parts alternation (λ l. Option·map (join alternation) (possible l)) r q)
     ∙ ap isSome (orElse-none (Option·map (join alternation) (possible l))) ∙ map-some (join alternation) (possible l)
-    ∙ ap isSome (possible-leftmost [] l) ∙ map-some without (leftmost (marks Void) [] l) ∙ sym
-    (or-false (isSome (leftmost (marks Void) [] l)))
-t7-marked (many n e lazy r) h = refl
+    ∙ ap isSome (possible-leftmost [] l) ∙ map-some without (leftmost (wants Void) [] l) ∙ sym
+    (or-false (isSome (leftmost (wants Void) [] l)))
+t7-wanted (many n e lazy r) h = refl

@@ -5,12 +5,12 @@ use Prim.Native.Nat.{_*_, _<_, _≤_}
 use native.Mathlib.Omega.{arith}
 use lib.ListN.{length}
 use Rattle.tidying_shapes.proofs.Joined.{root-low, stays-other, stays-whole, stays-apart, Joins, both-items, joined}
-use Rattle.tidying_shapes.proofs.settle.Statement.{statement}
-use Rattle.tidying_shapes.proofs.settle.Tie as tie
+use Rattle.tidying_shapes.proofs.merge.Statement.{statement}
+use Rattle.tidying_shapes.proofs.merge.Tie as tie
 
 -- The part's own record is one of those that are told.
 near : (s : tie.Start) → (s .args .root < s .args .n) × (16 * s .args .n ≤ length (s .args .table .now))
-near s = let u = s .pre .unsettled in (root-low u, u .says .room)
+near s = let u = s .pre .unmerged in (root-low u, u .says .room)
 
 mul-kind : tie.Need-mul-kind
 mul-kind c = omega (arith, near (c .before))
@@ -91,12 +91,12 @@ slice-read-items-2 c =
 
 add-items-3 : tie.Need-add-items-3
 add-items-3 c =
-    let u = c .before .before .before .before .before .before .before .before .before .before .before .pre .unsettled in
+    let u = c .before .before .before .before .before .before .before .before .before .before .before .pre .unmerged in
     omega (arith, both-items (joins (c .before .before)) u, u .few)
 
 sub-items : tie.Need-sub-items
 sub-items c =
-    let u = c .before .before .before .before .before .before .before .before .before .before .before .pre .unsettled in
+    let u = c .before .before .before .before .before .before .before .before .before .before .before .pre .unmerged in
     omega (arith, both-items (joins (c .before .before)) u)
 
 set-items-requires : tie.Need-set-items-requires
@@ -118,11 +118,11 @@ returns-5 c =
     let counted = c .before .before .before .before .before .before in
     let at-join = counted .before .before .before .before in
     let start = at-join .before .before .before .before .before .before .before .before .before in
-    joined (joins at-join) (omega (arith, both-items (joins at-join) (start .pre .unsettled))) (counted .set-items .ensures)
+    joined (joins at-join) (omega (arith, both-items (joins at-join) (start .pre .unmerged))) (counted .set-items .ensures)
     (c .before .before .remove .ensures)
 
-pub settle-spec : {M : Type 1} → statement M
-settle-spec =
+pub merge-spec : {M : Type 1} → statement M
+merge-spec =
     tie.close
     (tie.spec
     mul-kind
