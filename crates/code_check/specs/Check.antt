@@ -11,7 +11,8 @@ use Rattle.sets.specs.Sets.{below, between}
 use Rattle.sets.specs.Bits.{below-all, below-at, beq-eq}
 use Rattle.meaning.specs.Limits.{groupLimit, rowLimit, leastRows, rowWords, codeWords}
 use Rattle.machine.specs.Rows.{Row, rowAt}
-use Rattle.machine.specs.Kinds.{listed}
+use Rattle.machine.specs.Kinds.{acceptKind, consumeKind, jumpKind, forkKind, openKind, closeKind, resetKind, beginKind, endKind}
+use Rattle.machine.specs.Kinds.{assertKind, listed}
 use Rattle.machine.specs.Words.{wordAt, rowsSaid, groupsSaid, rowStart, decodeRow, rowIn, rowsIn, decode}
 use Rattle.machine.specs.Words.{rowPasses, mayBeLast, rowsPass, headerPasses, codePasses}
 use Rattle.machine.specs.Coded.{rowsIn-length, rowsIn-at}
@@ -25,31 +26,42 @@ not-so : (p : Bool) → (p ≡ true → ⊥) → p ≡ false
 not-so true h = absurd (h refl)
 not-so false h = refl
 
--- A test that passes at each of the first eleven numbers passes at a listed kind.
-among : (k : ℕ) (test : ℕ → Bool) → below 11 test ≡ true → listed k ≡ true → test k ≡ true
-among k test all l = below-at 11 test all k (omega (arith, leb-true k 10 (and-eq-true-iff (leb 1 k) (leb k 10) .0 l .1)))
+-- A test that passes at each number up to the last kind passes at a listed kind.
+among : (k : ℕ) (test : ℕ → Bool) → below (assertKind + 1) test ≡ true → listed k ≡ true → test k ≡ true
+among k test all l =
+    below-at (assertKind + 1) test all k
+    (omega (arith, leb-true k assertKind (and-eq-true-iff (leb acceptKind k) (leb k assertKind) .0 l .1)))
 
 -- A kind that is none of the ten is not listed.
-pub unlisted : (k : ℕ) → (k ≡ 1 → ⊥) → (k ≡ 2 → ⊥) → (k ≡ 3 → ⊥) → (k ≡ 4 → ⊥) → (k ≡ 5 → ⊥) → (k ≡ 6 → ⊥) → (k ≡ 7 → ⊥)
-    → (k ≡ 8 → ⊥) → (k ≡ 9 → ⊥) → (k ≡ 10 → ⊥) → listed k ≡ false
+pub unlisted : (k : ℕ) → (k ≡ acceptKind → ⊥) → (k ≡ consumeKind → ⊥) → (k ≡ jumpKind → ⊥) → (k ≡ forkKind → ⊥)
+    → (k ≡ openKind → ⊥) → (k ≡ closeKind → ⊥) → (k ≡ resetKind → ⊥) → (k ≡ beginKind → ⊥) → (k ≡ endKind → ⊥) → (k ≡ assertKind → ⊥) → listed k ≡ false
 unlisted k h₁ h₂ h₃ h₄ h₅ h₆ h₇ h₈ h₉ h₁₀ =
     let test : ℕ → Bool
-    = λ k. not (listed k) || eqb k 1 || eqb k 2 || eqb k 3 || eqb k 4 || eqb k 5
-    || eqb k 6 || eqb k 7 || eqb k 8 || eqb k 9 || eqb k 10 in
-    let low : (l : listed k ≡ true) → test k ≡ (eqb k 6 || eqb k 7 || eqb k 8 || eqb k 9 || eqb k 10)
-    = λ l. rw (l, ne-eqb k 1 h₁, ne-eqb k 2 h₂, ne-eqb k 3 h₃, ne-eqb k 4 h₄, ne-eqb k 5 h₅) in
-    let high : (eqb k 6 || eqb k 7 || eqb k 8 || eqb k 9 || eqb k 10) ≡ false
-    = rw (ne-eqb k 6 h₆, ne-eqb k 7 h₇, ne-eqb k 8 h₈, ne-eqb k 9 h₉, ne-eqb k 10 h₁₀) in
-    not-so (listed k) (λ l. true≢false (sym (among k test refl l) ∙ low l ∙ high))
+    = λ k. not (listed k) || eqb k acceptKind || eqb k consumeKind || eqb k jumpKind || eqb k forkKind || eqb k openKind
+    || eqb k closeKind || eqb k resetKind || eqb k beginKind || eqb k endKind || eqb k assertKind in
+    let high : Bool = eqb k closeKind || eqb k resetKind || eqb k beginKind || eqb k endKind || eqb k assertKind in
+    let low : (l : listed k ≡ true) → test k ≡ high
+    = λ l. rw (
+      l,
+      ne-eqb k acceptKind h₁,
+      ne-eqb k consumeKind h₂,
+      ne-eqb k jumpKind h₃,
+      ne-eqb k forkKind h₄,
+      ne-eqb k openKind h₅,
+    ) in
+    let none : high ≡ false
+    = rw (ne-eqb k closeKind h₆, ne-eqb k resetKind h₇, ne-eqb k beginKind h₈, ne-eqb k endKind h₉, ne-eqb k assertKind h₁₀) in
+    not-so (listed k) (λ l. true≢false (sym (among k test refl l) ∙ low l ∙ none))
 
 -- A listed kind that is none of the four may not be last.
-pub not-last : (k : ℕ) → listed k ≡ true → (k ≡ 1 → ⊥) → (k ≡ 3 → ⊥) → (k ≡ 4 → ⊥) → (k ≡ 9 → ⊥)
+pub not-last : (k : ℕ) → listed k ≡ true → (k ≡ acceptKind → ⊥) → (k ≡ jumpKind → ⊥) → (k ≡ forkKind → ⊥) → (k ≡ endKind → ⊥)
     → (a b : ℕ) (s : List ℕ) → mayBeLast (decodeRow k a b s) ≡ false
 not-last k l h₁ h₃ h₄ h₉ a b s =
     let test : ℕ → Bool
-    = λ k. not (listed k) || not (mayBeLast (decodeRow k a b s)) || eqb k 1 || eqb k 3 || eqb k 4 || eqb k 9 in
+    = λ k. not (listed k) || not (mayBeLast (decodeRow k a b s)) || eqb k acceptKind || eqb k jumpKind || eqb k forkKind
+    || eqb k endKind in
     let fails : mayBeLast (decodeRow k a b s) ≡ true → test k ≡ false
-    = λ m. rw (l, m, ne-eqb k 1 h₁, ne-eqb k 3 h₃, ne-eqb k 4 h₄, ne-eqb k 9 h₉) in
+    = λ m. rw (l, m, ne-eqb k acceptKind h₁, ne-eqb k jumpKind h₃, ne-eqb k forkKind h₄, ne-eqb k endKind h₉) in
     not-so (mayBeLast (decodeRow k a b s)) (λ m. true≢false (sym (among k test refl l) ∙ fails m))
 
 -- A Reset with highest 0 passes exactly if it is 1, 0.

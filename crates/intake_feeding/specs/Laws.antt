@@ -11,6 +11,7 @@ use borrow.Author.Tests.{le-leb, lt-leb, leb-true, leb-false, eq-eqb, ne-eqb}
 use lib.Dec.{leb, ltb}
 use lib.ListN.{length, getD, set, take, drop, length-take, drop-of-length-le}
 use lib.Seq.{length-take-le, take-all, take-suc, take-suc-set, drop-cons}
+use Rattle.meaning.specs.Limits.{lineFeed}
 use Rattle.intake_report.specs.Texts.{lf}
 use Rattle.intake_report.specs.Wrote.{Wrote, wrote-none, wrote-as, and-then}
 use Rattle.intake_lines.specs.Ended.{lineRoom, Ends}
@@ -57,24 +58,24 @@ module _ {line : List ℕ} (kept byte : ℕ) (long : length line ≡ keptLimit) 
 
 module _ {fed : Fed} {byte : ℕ} {line code out : List ℕ} where
   -- LF ends the line.
-  pub step-ends : {code′ out′ : List ℕ} {e : Ended} → byte ≡ 10
+  pub step-ends : {code′ out′ : List ℕ} {e : Ended} → byte ≡ lineFeed
       → Ends (fed .phase) (take (fed .kept) line) code code′ out out′ (fed .end) e
       → Steps fed byte line line code code′ out out′
       (record { phase = e .phase; kept = 0; taken = fed .taken; end = e .end; full = false })
   step-ends lf w = record {
-    work-is = rw (eq-eqb byte 10 lf) (ap₂ (λ q c. record { phase = q; code = c; kept = [] }) (w .phase-is) (w .code-is));
-    text-is = rw (eq-eqb byte 10 lf) (w .text-is);
+    work-is = rw (eq-eqb byte lineFeed lf) (ap₂ (λ q c. record { phase = q; code = c; kept = [] }) (w .phase-is) (w .code-is));
+    text-is = rw (eq-eqb byte lineFeed lf) (w .text-is);
     few = omega arith;
   }
 
   -- Any other byte is the line's.
-  pub step-keeps : {line′ : List ℕ} {kept : ℕ} → (byte ≡ 10 → ⊥) → fed .end ≤ length out
+  pub step-keeps : {line′ : List ℕ} {kept : ℕ} → (byte ≡ lineFeed → ⊥) → fed .end ≤ length out
       → Keeps (fed .kept) byte line line′ kept
       → Steps fed byte line line′ code code out out
       (record { phase = fed .phase; kept = kept; taken = fed .taken; end = fed .end; full = false })
   step-keeps other room w = record {
-    work-is = rw (ne-eqb byte 10 other) (ap (λ k. record { phase = fed .phase; code = code; kept = k }) (w .line-is));
-    text-is = rw (ne-eqb byte 10 other) (wrote-none out (fed .end) room);
+    work-is = rw (ne-eqb byte lineFeed other) (ap (λ k. record { phase = fed .phase; code = code; kept = k }) (w .line-is));
+    text-is = rw (ne-eqb byte lineFeed other) (wrote-none out (fed .end) room);
     few = w .few;
   }
 
@@ -254,4 +255,4 @@ module _ (phase : Phase) (kept : ℕ) (line code : List ℕ) where
       by : (w : Work) (l : List ℕ) → lineRoom ≤ length out
           → written w (take (takenOf w (length out) (unlessEmpty l lf)) (unlessEmpty l lf)) ≡ unlessEmpty l (lineText w)
       by w [] h = rw (taken-none w (length out))
-      by w (byte ∷ l) h = rw (taken-more w (length out) 10 [] h, taken-none) (append-nil (lineText w))
+      by w (byte ∷ l) h = rw (taken-more w (length out) lineFeed [] h, taken-none) (append-nil (lineText w))

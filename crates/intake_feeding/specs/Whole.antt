@@ -8,14 +8,13 @@ use borrow.Author.Tests.{le-leb, leb-true, leb-false, lt-ltb}
 use lib.Dec.{eqb, leb}
 use lib.ListN.{length, take, replicate, length-append}
 use lib.Seq.{take-all, take-append-le, length-take-le}
-use Rattle.meaning.specs.Limits.{patternLimit}
 use Rattle.meaning.specs.Results.{concatMap}
 use Rattle.reading_items.specs.Reading.{Reading, Reading.refused, reading}
 use Rattle.compiler.specs.declared.Compilation.{Compilation}
 use Rattle.compiler.specs.declared.Compilation.the-variants.{Rows, Refused}
 use Rattle.intake_report.specs.Lines.{linesOf, onFirst}
 use Rattle.intake_lines.specs.Intake.{lineLimit}
-use Rattle.meaning.specs.Limits.{tableSize, codeSize}
+use Rattle.meaning.specs.Limits.{patternLimit, tableSize, codeSize, lineFeed}
 use Rattle.meaning.specs.Refusals as No
 use Rattle.intake_lines.specs.Intake.{lineFor, linesFor, compiled, codeFrom, patternLine, outputFor, intakeOutput}
 use Rattle.intake_lines.specs.Ended.{phaseFor, phaseThen, codeThen, textThen}
@@ -156,7 +155,7 @@ whole-from : (phase : Phase) (code p input : List ℕ)
 unfolding written workBehind linesOf
 whole-from phase code p [] = at-end phase code p
 whole-from phase code p (byte ∷ l) =
-    by (λ q c. whole-from q c [] l) (whole-from phase code (p ++ byte ∷ []) l) (eqb byte 10)
+    by (λ q c. whole-from q c [] l) (whole-from phase code (p ++ byte ∷ []) l) (eqb byte lineFeed)
   where
     next : Bool → Work
     next t = cond t (nextLine (workWith phase code p)) (record { phase = phase; code = code; kept = keep (keptOf p) byte })
@@ -181,7 +180,7 @@ pub over-silent : (code kept l : List ℕ) → restOf (record { phase = Over; co
 unfolding written workBehind
 over-silent code [] [] = refl
 over-silent code (byte ∷ kept) [] = refl
-over-silent code kept (byte ∷ l) = by (over-silent code [] l) (over-silent code (keep kept byte) l) (eqb byte 10)
+over-silent code kept (byte ∷ l) = by (over-silent code [] l) (over-silent code (keep kept byte) l) (eqb byte lineFeed)
   where
     next : Bool → Work
     next t =

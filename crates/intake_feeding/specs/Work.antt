@@ -4,7 +4,7 @@ use mathlib.Core.List.{List, [], _∷_, _++_}
 use Prim.Native.Nat.{ℕ, suc, _+_, _-_}
 use lib.Dec.{eqb, leb}
 use lib.ListN.{length, replicate}
-use Rattle.meaning.specs.Limits.{codeSize}
+use Rattle.meaning.specs.Limits.{codeSize, lineFeed}
 use Rattle.intake_report.specs.Texts.{lf}
 use Rattle.intake_lines.specs.Intake.{lineLimit}
 use Rattle.intake_lines.specs.Ended.{lineRoom, phaseThen, codeThen, textThen}
@@ -37,10 +37,10 @@ nextLine w = record { phase = phaseThen (w .phase) (w .kept); code = codeThen (w
 
 -- A byte more: LF ends the line, any other is the line's.
 abbrev pub textAt : Work → ℕ → List ℕ
-textAt w byte = cond (eqb byte 10) (lineText w) []
+textAt w byte = cond (eqb byte lineFeed) (lineText w) []
 
 abbrev pub workAt : Work → ℕ → Work
-workAt w byte = cond (eqb byte 10) (nextLine w) (record { phase = w .phase; code = w .code; kept = keep (w .kept) byte })
+workAt w byte = cond (eqb byte lineFeed) (nextLine w) (record { phase = w .phase; code = w .code; kept = keep (w .kept) byte })
 
 -- What is written for a piece of the input, and the work behind it.
 unfoldable pub written : Work → List ℕ → List ℕ

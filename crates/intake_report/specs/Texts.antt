@@ -4,11 +4,12 @@ use mathlib.Core.List.{List, [], _∷_, _++_}
 use Prim.Native.Nat.{ℕ, zero, suc, _+_, _/_, _%_}
 use lib.Dec.{ltb}
 use lib.IntN.{ℤ, pos, negsuc}
+use Rattle.meaning.specs.Limits.{lineFeed}
 use Rattle.meaning.specs.Quoted.{bytes}
 
 -- LF, which ends a line.
 abbrev pub lf : List ℕ
-lf = 10 ∷ []
+lf = lineFeed ∷ []
 
 -- The ASCII digit of a number below ten.
 abbrev pub digit : ℕ → List ℕ

@@ -54,6 +54,14 @@ textLimit = 1048576
 abbrev pub positionLimit : ℕ
 positionLimit = 2147483648
 
+-- How many values a word has.
+abbrev pub wordLimit : ℕ
+wordLimit = 4294967296
+
+-- LF, which ends a line.
+abbrev pub lineFeed : ℕ
+lineFeed = 0x0A
+
 -- The workspace words that a run of n rows and g groups needs (refusal 24).
 abbrev pub workspaceWords : ℕ → ℕ → ℕ
 workspaceWords n g = 16 * n * (g + 2)

@@ -39,10 +39,10 @@ Matcher B = State → Continuation B → Option B
 module _ {B : Type 0} where
   -- 22.2.2.3.1 RepeatMatcher. The standard's calls end, since each turn past the minimum goes on in the text; here a number
   -- bounds them (`Agrees.repeat-any`: any that is large enough gives the same answer).
+  --   step 1: with a maximum of 0 go on;
   --   step 2: d fails after an empty turn past the minimum, else it repeats with min and max one less;
   --   steps 3 to 7: xr is x with the captures inside the atom undefined again;
-  --   step 1: with a maximum of 0 go on; step 8: below the minimum take the atom; steps 9 to 11: lazy goes on first, greedy
-  -- last.
+  --   step 8: below the minimum take the atom; step 9: lazy goes on first; steps 10 to 12: greedy goes on last.
   unfoldable pub repeatMatcher : ℕ → Matcher B → (State → State) → ℕ → Option ℕ → Bool → Matcher B
   repeatMatcher zero m undefine min max lazy x c = none
   repeatMatcher (suc calls) m undefine min max lazy x c =

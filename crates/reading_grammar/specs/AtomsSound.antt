@@ -94,12 +94,12 @@ module _ (inClass : Bool) (s : List ℕ) (a : ℕ) where
       edges true e h = EscapedByte.backspace at e h
       edges false e h = (e, inl (refl, h))
 
-      inners : (x : Bool) → inClass ≡ x → Is s (a + 1) 0x42 → Means (cond x (wrong 4) (assertion 3))
+      inners : (x : Bool) → inClass ≡ x → Is s (a + 1) 0x42 → Means (cond x (wrong No.badEscape) (assertion 3))
       inners true e h = inl refl
       inners false e h = (e, inr (refl, h))
 
       numbers : (x : Bool) → inClass ≡ x → (Is s (a + 1) 0x30 → ⊥) → (t : Bool) → isDigit (byteAt s (a + 1)) ≡ t
-          → (t || eqb (byteAt s (a + 1)) 0x6B) ≡ true → Means (wrong (cond x 4 5))
+          → (t || eqb (byteAt s (a + 1)) 0x6B) ≡ true → Means (wrong (cond x No.badEscape No.leftOut))
       numbers true e n t f h = inl refl
       numbers false e n true f h = inr (refl, LeftOut.number e f n)
       numbers false e n false f h = inr (refl, LeftOut.name e (eqb-true (byteAt s (a + 1)) 0x6B h))

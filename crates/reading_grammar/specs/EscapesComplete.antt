@@ -1,14 +1,14 @@
 -- What derives as an escape is read so.
-use mathlib.Core.Path.{_≡_, refl}
-use mathlib.Core.Bool.{Bool, false, _||_}
+use mathlib.Core.Path.{_≡_, refl, _∙_}
+use mathlib.Core.Bool.{Bool, false, cond, _||_}
 use mathlib.Core.List.{List}
 use Prim.Native.Nat.{ℕ, _+_, _-_, _<_}
 use native.Mathlib.Omega.{arith}
 use lib.Dec.{eqb}
 use borrow.Author.Tests.{ne-eqb}
 use Rattle.sets.specs.Sets.{between, isDigit, isWord}
-use Rattle.reading_atoms.specs.Chars.{noByte, backslash}
-use Rattle.reading_atoms.specs.Escapes.{Escape.byte, Escape.named, escapeAt}
+use Rattle.reading_atoms.specs.Chars.{noByte, backslash, isLetter}
+use Rattle.reading_atoms.specs.Escapes.{Escape.byte, Escape.named, zeroEscape, otherEscape, escapeAt}
 use Rattle.reading_grammar.specs.Atoms.{Is, Control, Control.feed, Control.newline, Control.return, Control.tab}
 use Rattle.reading_grammar.specs.Atoms.{Control.vertical}
 use Rattle.reading_grammar.specs.Atoms.{Named.digits, Named.noDigits, Named.words, Named.noWords, Named.spaces}
@@ -18,46 +18,45 @@ use Rattle.reading_grammar.specs.Atoms.{EscapedByte.nul}
 use Rattle.reading_grammar.specs.Atoms.{EscapedByte.backspace, EscapedByte.itself, EscapedSet, EscapedSet.named}
 use Rattle.reading_grammar.specs.AtomsSound.{not-both, apart}
 
--- A byte that is no word byte is none of the letters and digits that an escape may begin with.
-no-letter : (b : ℕ) → isWord b ≡ false
+-- A byte that is no letter is none of those that an escape may begin with.
+no-letter : (b : ℕ) → isLetter b ≡ false
     → (eqb b 0x64 ≡ false) × (eqb b 0x44 ≡ false) × (eqb b 0x77 ≡ false) × (eqb b 0x57 ≡ false) × (eqb b 0x73 ≡ false) ×
     (eqb b 0x53 ≡ false) × (eqb b 0x66 ≡ false) × (eqb b 0x6E ≡ false) × (eqb b 0x72 ≡ false) × (eqb b 0x74 ≡ false) ×
-    (eqb b 0x76 ≡ false) × (eqb b 0x63 ≡ false) × (eqb b 0x78 ≡ false) × (eqb b 0x30 ≡ false) × (eqb b 0x62 ≡ false) ×
-    (eqb b 0x42 ≡ false) × (eqb b 0x75 ≡ false) × (eqb b 0x6B ≡ false)
-unfolding isWord isDigit
+    (eqb b 0x76 ≡ false) × (eqb b 0x63 ≡ false) × (eqb b 0x78 ≡ false) × (eqb b 0x62 ≡ false) × (eqb b 0x42 ≡ false) ×
+    (eqb b 0x75 ≡ false)
 no-letter b w = (
-  apart isWord b 0x64 false w refl,
-  apart isWord b 0x44 false w refl,
-  apart isWord b 0x77 false w refl,
-  apart isWord b 0x57 false w refl,
-  apart isWord b 0x73 false w refl,
-  apart isWord b 0x53 false w refl,
-  apart isWord b 0x66 false w refl,
-  apart isWord b 0x6E false w refl,
-  apart isWord b 0x72 false w refl,
-  apart isWord b 0x74 false w refl,
-  apart isWord b 0x76 false w refl,
-  apart isWord b 0x63 false w refl,
-  apart isWord b 0x78 false w refl,
-  apart isWord b 0x30 false w refl,
-  apart isWord b 0x62 false w refl,
-  apart isWord b 0x42 false w refl,
-  apart isWord b 0x75 false w refl,
-  apart isWord b 0x6B false w refl,
+  apart isLetter b 0x64 false w refl,
+  apart isLetter b 0x44 false w refl,
+  apart isLetter b 0x77 false w refl,
+  apart isLetter b 0x57 false w refl,
+  apart isLetter b 0x73 false w refl,
+  apart isLetter b 0x53 false w refl,
+  apart isLetter b 0x66 false w refl,
+  apart isLetter b 0x6E false w refl,
+  apart isLetter b 0x72 false w refl,
+  apart isLetter b 0x74 false w refl,
+  apart isLetter b 0x76 false w refl,
+  apart isLetter b 0x63 false w refl,
+  apart isLetter b 0x78 false w refl,
+  apart isLetter b 0x62 false w refl,
+  apart isLetter b 0x42 false w refl,
+  apart isLetter b 0x75 false w refl,
 )
 
-no-digit : (b : ℕ) → isWord b ≡ false → isDigit b ≡ false
+-- What is no word byte is neither a letter nor a digit.
+no-word : (b : ℕ) → isWord b ≡ false → (isLetter b ≡ false) × (isDigit b ≡ false)
 unfolding isWord
-no-digit b w =
+no-word b w =
     let (u, v) = not-both (between 0x41 0x5A b) (between 0x61 0x7A b || (isDigit b || eqb b 0x5F)) w in
     let (x, y) = not-both (between 0x61 0x7A b) (isDigit b || eqb b 0x5F) v in
-    not-both (isDigit b) (eqb b 0x5F) y .0
+    (rw (u, x), not-both (isDigit b) (eqb b 0x5F) y .0)
 
 module _ (inClass : Bool) (s : List ℕ) where
-  -- A byte that is no letter, digit or _ is itself.
-  itself-complete : (a b : ℕ) → Is s (a + 1) b → (b ≡ noByte → ⊥) → isWord b ≡ false → escapeAt inClass s a ≡ byte b (a + 2)
+  -- What begins with no letter is `\0` or one of the others.
+  pub no-letter-escape : (a b : ℕ) → Is s (a + 1) b → isLetter b ≡ false
+      → escapeAt inClass s a ≡ cond (eqb b 0x30) (zeroEscape s a) (otherEscape inClass b (a + 2))
   unfolding escapeAt
-  itself-complete a b h n w =
+  no-letter-escape a b h w =
       let t = no-letter b w in
       rw (
         h,
@@ -77,9 +76,17 @@ module _ (inClass : Bool) (s : List ℕ) where
         t .13,
         t .14,
         t .15,
-        t .16,
-        t .17,
-        no-digit b w,
+      )
+
+  -- A byte that is no letter, digit or _ is itself.
+  itself-complete : (a b : ℕ) → Is s (a + 1) b → (b ≡ noByte → ⊥) → isWord b ≡ false → escapeAt inClass s a ≡ byte b (a + 2)
+  unfolding isWord isDigit
+  itself-complete a b h n w =
+      let (letter, digit) = no-word b w in
+      no-letter-escape a b h letter ∙ rw (
+        apart isDigit b 0x30 false digit refl,
+        digit,
+        apart isLetter b 0x6B false letter refl,
         w,
         ne-eqb b noByte n,
       )

@@ -33,10 +33,6 @@ startOf group = group * 2
 abbrev pub endOf : ℕ → ℕ
 endOf group = group * 2 + 1
 
--- How many values a word has.
-abbrev pub wordLimit : ℕ
-wordLimit = 4294967296
-
 -- ---- what the numbers stand for
 
 pub key-of : (row flag : ℕ) → flag < 2 → keyOf (keyNumber row flag) ≡ at row (eqb flag 1)

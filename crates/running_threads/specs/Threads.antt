@@ -6,10 +6,10 @@ use mathlib.Core.List.{List, [], _∷_, map}
 use Prim.Native.Nat.{ℕ, zero, suc, _+_, _-_, _<_}
 use lib.Dec.{eqb, ltb}
 use lib.ListN.{getD, set}
-use Rattle.meaning.specs.Limits.{positionLimit}
+use Rattle.meaning.specs.Limits.{positionLimit, wordLimit}
 use Rattle.machine.specs.Rows.{Key}
 use Rattle.machine.specs.Steps.{Thread, thread, among}
-use Rattle.running_moves.specs.Keys.{keyOf, wordLimit}
+use Rattle.running_moves.specs.Keys.{keyOf}
 use Rattle.running_threads.specs.Words.{wordsAt}
 use Rattle.running_threads.specs.declared.Plan.{Plan}
 

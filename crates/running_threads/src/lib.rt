@@ -2,7 +2,7 @@
 ghost use mathlib.Core.Path.{_≡_};
 ghost use Prim.Native.Nat.{_+_, _-_, _<_, _≤_};
 ghost use lib.ListN.{length, set};
-ghost use Rattle.running_moves.specs.Keys.{wordLimit};
+ghost use Rattle.meaning.specs.Limits.{wordLimit};
 ghost use Rattle.running_threads.specs.Words.{Below, Clear, Pasted, Spread};
 ghost use Rattle.running_threads.specs.Held.{Frame, Laid, Runs, Tags, Stack, putBack, Wrote, Wiped, Queued, Popped, Took};
 

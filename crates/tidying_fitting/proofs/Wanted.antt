@@ -74,7 +74,7 @@ module _ {table : List ℕ} {top : ℕ} where
     alternatives : (r : Node) (before : List ℕ) → Ends table top before r → fits t7 r ≡
         (a || (hasWanted sequenceKind Void r && eqb (hi r) 0))
     alternatives r before p =
-        t7-wanted r (p .proper) ∙ ap (λ b. b || (hasWanted 5 Void r && eqb (hi r) 0)) (sym (t .by before r p))
+        t7-wanted r (p .proper) ∙ ap (λ b. b || (hasWanted sequenceKind Void r && eqb (hi r) 0)) (sym (t .by before r p))
 
     pub void-alternative : a ≡ true → Tells true table top (fits t7)
     void-alternative e = record {

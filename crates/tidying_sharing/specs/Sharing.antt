@@ -4,7 +4,7 @@ use mathlib.Core.List.{List, [], _∷_, _++_, append-assoc}
 use Prim.Native.Nat.{ℕ, suc, _+_, _-_, _*_, _≤_, _<_}
 use native.Mathlib.Omega.{arith}
 use lib.ListN.{length, getD, take, drop, length-append}
-use Rattle.meaning.specs.Limits.{setWords}
+use Rattle.meaning.specs.Limits.{setWords, wordLimit}
 use Rattle.table.specs.Table.{setWord}
 use Rattle.meaning.specs.Node.{Node, Proper}
 use Rattle.meaning.specs.Flat.{Kind.sequence, Kind.alternation, Not}
@@ -29,7 +29,7 @@ use Rattle.tidying_rewriting.specs.Series.{skeletons-count, skeletons-append, R
 use Rattle.tidying_sharing.specs.Leads.{Lead, Lead.single, Lead.leading, opening}
 use Rattle.tidying_sharing.specs.Trims.{trimmed, lead-tokens}
 use Rattle.tidying_sharing.specs.Wraps.{setToken, Wraps}
-use Rattle.tidying_sharing.specs.Shortening.{wordLimit, widths, Running, SomeRunning, Shortens}
+use Rattle.tidying_sharing.specs.Shortening.{widths, Running, SomeRunning, Shortens}
 use Rattle.tidying_sharing.specs.Shares.{Shares, shares-of, leads, rests, after, the-run, two-leads, split-run}
 use Rattle.tidying_sharing.specs.Shares.{ending, rejoined-ending, result-tokens}
 use Rattle.tidying_sharing.specs.Located.{Sharing, SomeSharing, Located}

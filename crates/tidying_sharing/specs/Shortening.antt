@@ -4,6 +4,7 @@ use mathlib.Core.List.{List, [], _∷_, _++_, map, append-assoc, append-nil}
 use Prim.Native.Nat.{ℕ, _+_, _-_, _≤_, _<_}
 use native.Mathlib.Omega.{arith}
 use lib.ListN.{length, length-append}
+use Rattle.meaning.specs.Limits.{wordLimit}
 use Rattle.meaning.specs.Node.{Node}
 use Rattle.meaning.specs.Flat.{Kind.alternation, parts}
 use Rattle.meaning.specs.Results.{concatMap}
@@ -21,10 +22,6 @@ use Rattle.tidying_rewriting.specs.Walks.{Walked, Turned, turned}
 use Rattle.tidying_sharing.specs.Leads.{Lead, left}
 use Rattle.tidying_sharing.specs.Trims.{trimmed, fewer-parts, trim-width}
 use Rattle.tidying_sharing.specs.Lent.{TrimmingAt, SomeTrimmingAt, some-trimming-at, TrimsAt}
-
--- Every word of a table is below this.
-abbrev pub wordLimit : ℕ
-wordLimit = 4294967296
 
 -- How many alternatives some patterns are in one alternation.
 abbrev pub widths : List Node → ℕ

@@ -6,6 +6,11 @@ ghost use lib.Seq.{sets};
 ghost use Rattle.wire.specs.Wire.{wordOf4, wordsOf, bytesOfWord, bytesOfWords, bitsOf, intOf, bytesOfInts, intsOf};
 ghost use Rattle.wire.specs.Wire.{written};
 
+// In two's complement the numbers from HALF on are those below zero, WHOLE higher.
+const HALF: u32 = 2147483648;
+
+const WHOLE: i64 = 4294967296;
+
 // A byte as a number.
 fn wide(byte: u8) -> u32
     ensures { λ r. ⌜ (r ≡ byte) × (r < 256) ⌝ }
@@ -42,7 +47,7 @@ fn bits_of(value: i32) -> u32
 {
     if value < 0 {
         let long = value as i64;
-        return (long + 4294967296) as u32;
+        return (long + WHOLE) as u32;
     }
     value as u32
 }
@@ -51,11 +56,11 @@ fn bits_of(value: i32) -> u32
 fn int_of(word: u32) -> i32
     ensures { λ r. ⌜ r ≡ intOf word ⌝ }
 {
-    if word < 2147483648 {
+    if word < HALF {
         return word as i32;
     }
     let long = word as i64;
-    (long - 4294967296) as i32
+    (long - WHOLE) as i32
 }
 
 // The words are those of bytes, from the first on. Asked: as many whole words of bytes.
