@@ -82,11 +82,11 @@ module _ (inClass : Bool) (s : List ℕ) where
   itself-complete : (a b : ℕ) → Is s (a + 1) b → (b ≡ noByte → ⊥) → isWord b ≡ false → escapeAt inClass s a ≡ byte b (a + 2)
   unfolding isWord isDigit
   itself-complete a b h n w =
-      let (letter, digit) = no-word b w in
-      no-letter-escape a b h letter ∙ rw (
-        apart isDigit b 0x30 false digit refl,
-        digit,
-        apart isLetter b 0x6B false letter refl,
+      let (noLetter, noDigit) = no-word b w in
+      no-letter-escape a b h noLetter ∙ rw (
+        apart isDigit b 0x30 false noDigit refl,
+        noDigit,
+        apart isLetter b 0x6B false noLetter refl,
         w,
         ne-eqb b noByte n,
       )
