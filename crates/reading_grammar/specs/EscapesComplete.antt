@@ -51,6 +51,10 @@ no-word b w =
     let (x, y) = not-both (between 0x61 0x7A b) (isDigit b || eqb b 0x5F) v in
     (rw (u, x), not-both (isDigit b) (eqb b 0x5F) y .0)
 
+no-zero : (b : ℕ) → isDigit b ≡ false → eqb b 0x30 ≡ false
+unfolding isDigit
+no-zero b h = apart isDigit b 0x30 false h refl
+
 module _ (inClass : Bool) (s : List ℕ) where
   -- What begins with no letter is `\0` or one of the others.
   pub no-letter-escape : (a b : ℕ) → Is s (a + 1) b → isLetter b ≡ false
@@ -80,11 +84,10 @@ module _ (inClass : Bool) (s : List ℕ) where
 
   -- A byte that is no letter, digit or _ is itself.
   itself-complete : (a b : ℕ) → Is s (a + 1) b → (b ≡ noByte → ⊥) → isWord b ≡ false → escapeAt inClass s a ≡ byte b (a + 2)
-  unfolding isWord isDigit
   itself-complete a b h n w =
       let (noLetter, noDigit) = no-word b w in
       no-letter-escape a b h noLetter ∙ rw (
-        apart isDigit b 0x30 false noDigit refl,
+        no-zero b noDigit,
         noDigit,
         apart isLetter b 0x6B false noLetter refl,
         w,
