@@ -1,30 +1,45 @@
 -- The three demands, over the promises of the public calls: `Compiles` of `compile` and `compile_tidied`, `Answered` of
--- `match_at` and `search`. `Finds` of `find` is demand 2 in one definition. That every call ends, and touches only what was
--- lent, is the toolchain's part: a function that may not end, or reaches further, is not proved.
+-- `match_at` and `search`, `CompilesBytes` and `RunsBytes` of the host's calls, `intakeOutput` of the intake program. `Finds` of
+-- `find` is demand 2 in one definition. That every call ends, and touches only what was lent, is the toolchain's part: a function
+-- that may not end, or reaches further, is not proved.
 use mathlib.Core.Path.{_≡_, refl, sym}
 use mathlib.Core.Logic.{_↔_}
 use mathlib.Core.Bool.{Bool}
-use mathlib.Core.List.{List}
+use mathlib.Core.Option.{Option}
+use mathlib.Core.List.{List, _∷_, _++_}
 use Prim.Native.Nat.{ℕ, suc, _+_, _*_, _-_, _≤_}
 use lib.IntN.{ℤ}
-use lib.ListN.{length}
+use lib.ListN.{length, take}
 use Rattle.meaning.specs.All.{All}
-use Rattle.meaning.specs.Bytes.{Bytes}
+use Rattle.meaning.specs.Text.{Regs}
+use Rattle.meaning.specs.Bytes.{Bytes, textOf}
+use Rattle.meaning.specs.Limits.{codeWords}
+use Rattle.meaning.specs.Grounds.{firstOf}
+use Rattle.meaning.specs.Results.{concatMap}
 use Rattle.meaning.specs.Node.{Node}
+use Rattle.meaning.specs.Standard.{searchFrom}
 use Rattle.machine.specs.Steps.{count, seen, Done}
 use Rattle.machine.specs.Words.{rowsSaid}
-use Rattle.machine.specs.Replies.{valuesOf, lentBy, turnedAway, refusal, runOf}
+use Rattle.machine.specs.Replies.{valuesOf, lentBy, turnedAway, refusal, runOf, replyTo}
 use Rattle.tidying_laws.specs.List.{becomes}
-use Rattle.compiler.specs.Compiling.{plain, tidied, Compiles}
+use Rattle.reading_grammar.specs.Grammar.{Derives}
+use Rattle.compiler.specs.Compiling.{plain, tidied, shaped, Compiles}
 use Rattle.compiler.specs.declared.Compilation.{Compilation}
 use Rattle.compiler.specs.declared.Compilation.the-variants.{Rows, Refused as Unread}
 use Rattle.engine.specs.Answers.{replyOf, executed, Answered}
 use Rattle.engine.specs.declared.Answer.{Answer}
 use Rattle.engine.specs.declared.Answer.the-variants.{Refused}
-use Rattle.millkettle.specs.Laws.{Way, rowOf}
+use Rattle.millkettle.specs.Laws.{Way, rowOf, standardBy}
+use Rattle.intake_report.specs.Texts.{headerLine}
+use Rattle.intake_report.specs.Lines.{linesOf}
+use Rattle.intake_lines.specs.Intake.{compiled, intakeOutput}
+use Rattle.host.specs.Surface.{compiledNumbers, ranNumbers, lentTo, CompilesBytes, RunsBytes}
+use Rattle.host.specs.declared.Ran.{Ran}
 use Rattle.demands.specs.Patterns.{Replies, answered-exactly, Left, left-behind}
 use Rattle.demands.specs.Runs.{bounded-rows, counted-rows, turned-rows, ended-run, position-rows, stepsOf}
 use Rattle.demands.specs.Runs.{SomeStandard, compiled-standard, rows-bytes}
+use Rattle.demands.specs.HostAnswers.{keptGrounds, bytesFrom, host-standard}
+use Rattle.demands.specs.IntakeAnswers.{lineSaying, lineGrounds, intake-standard}
 use Rattle.demands.specs.Tidied.{Neat, neat, outcome, SameSpans, same-answers, SameStandard, laws-standard}
 
 -- Demand 1, for any bytes as a pattern, and any table and code: the answer is exactly what the grammar and the table of refusals
@@ -74,6 +89,24 @@ pub demand-2 : (tidying : Bool) (way : Way) {s text : List ℕ} {start : ℕ} {t
     → Answered code′ text start (rowOf way) registers workspace answer registers′ workspace′
     → SomeStandard tidying way s table text start n g registers registers′ workspace answer
 demand-2 = compiled-standard
+
+-- So do the host's calls, on bytes that begin with the code left; refused only by 20, if over 1,164 words, and by 21 to 24.
+pub demand-2-host : (tidying : Bool) (way : Way) {s code code′ kept text registers registers′ : List ℕ} {start n g : ℕ} {r : Ran}
+    → Bytes code → Bytes text → Bytes registers → CompilesBytes tidying s code (compiledNumbers (Rows n g)) code′
+    → take (4 * codeWords n) kept ≡ take (4 * codeWords n) code′ → RunsBytes (rowOf way) kept text start registers r registers′
+    → (node : Node) × Derives s node g
+    × (let number : ℕ = firstOf (keptGrounds kept n g (lentTo text start registers)) in
+    let found : Option Regs = standardBy way text g (shaped tidying node) start in
+    (r ≡ ranNumbers (replyTo number found (r .count))) × (registers′ ≡ bytesFrom number g found registers))
+demand-2-host = host-standard
+
+-- So does the intake program, searching each line behind the pattern's from 0; refused only by 21, too long a line, and by 24.
+pub demand-2-intake : {input pattern : List ℕ} {lines : List (List ℕ)} {n g : ℕ} → Bytes input
+    → linesOf input ≡ pattern ∷ lines → compiled pattern ≡ Rows n g
+    → (node : Node) × Derives pattern node g
+    × (intakeOutput input ≡ headerLine n g
+    ++ concatMap (λ line. lineSaying (firstOf (lineGrounds n g line)) (searchFrom (textOf line) g node 0)) lines)
+demand-2-intake = intake-standard
 
 -- Demand 3: each law of the list is valid inside any surrounding pattern: whatever a part becomes by the law's words, every text
 -- is matched the same from every start, with every group;

@@ -37,7 +37,7 @@ module _ (code text : List ℕ) (start : ℕ) (registers : List ℕ) where
     abbrev g : ℕ
     g = groupsSaid (allWords code)
 
-    number-is : r .number ≡ firstOf grounds
+    pub number-is : r .number ≡ firstOf grounds
     number-is = ap (λ x. x .number) (h .replies) ∙ number-passed (firstOf grounds) (best M) (count M)
 
     -- A run has a number exactly if the number's ground holds and none before it does, and 0 if none holds.

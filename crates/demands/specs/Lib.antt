@@ -9,5 +9,8 @@ pub mod Untidied
 pub mod HostPatterns
 pub mod HostCodes
 pub mod HostRuns
+pub mod HostWords
+pub mod HostAnswers
+pub mod IntakeAnswers
 pub mod Lines
 mod Compilations

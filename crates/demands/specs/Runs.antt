@@ -47,7 +47,7 @@ told-back (Refused n) = refl
 pub one-answer : (r q : Answer) → replyOf r ≡ replyOf q → r ≡ q
 one-answer r q e = sym (told-back r) ∙ ap answerAs e ∙ told-back q
 
-count-of : (o : Option Regs) (n : ℕ) → valuesOf (answerOf o n) .count ≡ n
+pub count-of : (o : Option Regs) (n : ℕ) → valuesOf (answerOf o n) .count ≡ n
 count-of none n = refl
 count-of (some ρ) n = refl
 

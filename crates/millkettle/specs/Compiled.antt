@@ -36,7 +36,7 @@ pub record Coded (code : List ℕ) (n g : ℕ) (r : Node) : Type 0 where
   pub groups-said : groupsSaid code ≡ g
 
 -- The code of a program is so, whatever words stand behind it.
-coded : (g : ℕ) (r : Node) (rest : List ℕ) → Numbers 1 r (suc g) → Proper r → g ≤ groupLimit → rowsNeeded r ≤ rowLimit
+pub coded : (g : ℕ) (r : Node) (rest : List ℕ) → Numbers 1 r (suc g) → Proper r → g ≤ groupLimit → rowsNeeded r ≤ rowLimit
     → Coded (codeOf (programOf g r) ++ rest) (rowsNeeded r) g r
 coded g r rest numbers proper groups rows =
     let code : List ℕ = codeOf (programOf g r) ++ rest in
