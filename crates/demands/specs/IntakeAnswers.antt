@@ -14,7 +14,7 @@ use Rattle.meaning.specs.All.{All}
 use Rattle.meaning.specs.Tests.{by-test}
 use Rattle.meaning.specs.Text.{Regs, registersOf}
 use Rattle.meaning.specs.Bytes.{Bytes, textOf}
-use Rattle.meaning.specs.Limits.{textLimit, workspaceWords, tableSize, codeSize, workspaceSize}
+use Rattle.meaning.specs.Limits.{textLimit, lineFeed, workspaceWords, tableSize, codeSize, workspaceSize}
 use Rattle.meaning.specs.Refusals as No
 use Rattle.meaning.specs.Grounds.{Ground, ground, firstOf}
 use Rattle.meaning.specs.Results.{concatMap}
@@ -71,7 +71,7 @@ unfolding linesOf
 lines-bytes [] h = tt
 lines-bytes (b ∷ l) h =
     let more : All Bytes (linesOf l) = lines-bytes l (record { byte = λ i. h .byte (suc i) }) in
-    by-test (All Bytes) (eqb b 10) (λ e. (no-bytes, more)) (λ e. first-bytes b (linesOf l) (h .byte 0) more)
+    by-test (All Bytes) (eqb b lineFeed) (λ e. (no-bytes, more)) (λ e. first-bytes b (linesOf l) (h .byte 0) more)
 
 -- Code that says the program of a pattern, and a line.
 module _ {code : List ℕ} {n g : ℕ} {r : Node} (m : Coded code n g r) (line : List ℕ) (bytes : Bytes line) where

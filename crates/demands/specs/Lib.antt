@@ -5,6 +5,7 @@ pub mod Demands
 pub mod Pinned
 pub mod Impossible
 pub mod Cheats
+pub mod OnePattern
 pub mod Untidied
 pub mod HostPatterns
 pub mod HostCodes
