@@ -34,7 +34,8 @@ among k test all l =
 
 -- A kind that is none of the ten is not listed.
 pub unlisted : (k : ℕ) → (k ≡ acceptKind → ⊥) → (k ≡ consumeKind → ⊥) → (k ≡ jumpKind → ⊥) → (k ≡ forkKind → ⊥)
-    → (k ≡ openKind → ⊥) → (k ≡ closeKind → ⊥) → (k ≡ resetKind → ⊥) → (k ≡ beginKind → ⊥) → (k ≡ endKind → ⊥) → (k ≡ assertKind → ⊥) → listed k ≡ false
+    → (k ≡ openKind → ⊥) → (k ≡ closeKind → ⊥) → (k ≡ resetKind → ⊥) → (k ≡ beginKind → ⊥) → (k ≡ endKind → ⊥)
+    → (k ≡ assertKind → ⊥) → listed k ≡ false
 unlisted k h₁ h₂ h₃ h₄ h₅ h₆ h₇ h₈ h₉ h₁₀ =
     let test : ℕ → Bool
     = λ k. not (listed k) || eqb k acceptKind || eqb k consumeKind || eqb k jumpKind || eqb k forkKind || eqb k openKind

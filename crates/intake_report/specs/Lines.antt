@@ -82,7 +82,8 @@ module _ (text : List ℕ) (to r : ℕ) (inside : to ≤ length text) (found : r
           record { first = rw (s, slice-empty); rest = rw (s, s′) }
 
   -- A byte before it that is no LF is the line's.
-  split-more : (from : ℕ) → from < r → r ≤ to → (getD text from 0 ≡ lineFeed → ⊥) → Split text (suc from) to r → Split text from to r
+  split-more : (from : ℕ) → from < r → r ≤ to → (getD text from 0 ≡ lineFeed → ⊥) → Split text (suc from) to r
+      → Split text from to r
   unfolding firstLine restLines
   split-more from l h other s =
       let differs : eqb (getD text from 0) lineFeed ≡ false = ne-eqb (getD text from 0) lineFeed other in
@@ -92,7 +93,8 @@ module _ (text : List ℕ) (to r : ℕ) (inside : to ≤ length text) (found : r
         rest = rw (slice-cons from to text 0 (omega arith) inside, differs) (s .rest);
       }
 
-  split-by : (k from : ℕ) → from + k ≡ r → r ≤ to → ((i : ℕ) → from ≤ i → i < r → getD text i 0 ≡ lineFeed → ⊥) → Split text from to r
+  split-by : (k from : ℕ) → from + k ≡ r → r ≤ to → ((i : ℕ) → from ≤ i → i < r → getD text i 0 ≡ lineFeed → ⊥)
+      → Split text from to r
   split-by zero from e h none = let e′ : from ≡ r = omega arith in rw e′ (split-here h)
   split-by (suc k) from e h none =
       split-more from (omega arith) h (none from (omega arith) (omega arith))

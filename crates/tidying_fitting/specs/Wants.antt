@@ -205,7 +205,8 @@ and-comm true false = refl
 and-comm false true = refl
 and-comm false false = refl
 
-pub t7-wanted : (r : Node) → Proper r → fits t7 r ≡ (hasWanted alternationKind Void r || (hasWanted sequenceKind Void r && eqb (hi r) 0))
+pub t7-wanted : (r : Node) → Proper r
+    → fits t7 r ≡ (hasWanted alternationKind Void r || (hasWanted sequenceKind Void r && eqb (hi r) 0))
 unfolding parts inner
 t7-wanted empty h = refl
 t7-wanted (bset s) h = refl
