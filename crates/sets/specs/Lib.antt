@@ -1,3 +1,4 @@
 pub mod Sets
 pub mod Bits
 pub mod Laws
+mod Examples

@@ -55,9 +55,9 @@ isDigit b = between 0x30 0x39 b
 unfoldable pub isWord : ℕ → Bool
 isWord b = between 0x41 0x5A b || (between 0x61 0x7A b || (isDigit b || eqb b 0x5F))
 
--- The spaces 09 to 0D and 20.
+-- The spaces 09 to 0D, 20 and A0.
 unfoldable pub isSpace : ℕ → Bool
-isSpace b = between 0x09 0x0D b || eqb b 0x20
+isSpace b = between 0x09 0x0D b || (eqb b 0x20 || eqb b 0xA0)
 
 -- What the dot takes: all but 0A and 0D.
 unfoldable pub isDot : ℕ → Bool

@@ -96,14 +96,17 @@ const LOWER: u32 = 0x07FF_FFFE;
 // The spaces 09 to 0D, in word 0; the space 20 is the lowest bit of word 1.
 const SPACES: u32 = 0x0000_3E00;
 
+// The no-break space A0, in word 5.
+const NO_BREAK: u32 = 0x0000_0001;
+
 // What \d \D \w \W \s \S take, a row for each.
 const ESCAPES: [[u32; 8]; 6] = [
     [0, DIGITS, 0, 0, 0, 0, 0, 0],
     [!0, !DIGITS, !0, !0, !0, !0, !0, !0],
     [0, DIGITS, UPPER, LOWER, 0, 0, 0, 0],
     [!0, !DIGITS, !UPPER, !LOWER, !0, !0, !0, !0],
-    [SPACES, 1, 0, 0, 0, 0, 0, 0],
-    [!SPACES, !1, !0, !0, !0, !0, !0, !0],
+    [SPACES, 1, 0, 0, 0, NO_BREAK, 0, 0],
+    [!SPACES, !1, !0, !0, !0, !NO_BREAK, !0, !0],
 ];
 
 // What a set escape takes, by its number: \d \D \w \W \s \S from 0 to 5.

@@ -43,7 +43,8 @@ pub struct Run<'a> {
 pub fn lines() -> Vec<Line> {
     let folder = Path::new(env!("CARGO_MANIFEST_DIR")).join("../../crates/lines");
     let file = |name: &str| {
-        fs::read_to_string(folder.join(name)).unwrap_or_else(|error| panic!("{name}: {error}"))
+        let bytes = fs::read(folder.join(name)).unwrap_or_else(|error| panic!("{name}: {error}"));
+        bytes.into_iter().map(char::from).collect::<String>()
     };
     let (asked, written) = (file("stdin"), file("stdout"));
     let asked: Vec<&str> = asked.lines().collect();
@@ -56,6 +57,11 @@ pub fn lines() -> Vec<Line> {
 }
 
 impl Line {
+    /// The text's bytes, each of which is read as the character of its number.
+    pub fn bytes(&self) -> Vec<u8> {
+        self.text.chars().map(|byte| byte as u8).collect()
+    }
+
     /// The word that says what is asked.
     fn asks(&self) -> &str {
         self.question.split(' ').next().unwrap_or_default()
@@ -96,7 +102,7 @@ impl Line {
         let start = self.behind(1).get(..1).and_then(|digit| digit.parse().ok()).unwrap_or(0);
         let start = if self.pattern().is_some() { start } else { 0 };
         let mut registers = [7; 4];
-        let run = Run { entry, text: self.text.as_bytes(), start };
+        let run = Run { entry, text: &self.bytes(), start };
         let answer = match code.and_then(|code| answers.run(&code, run, &mut registers)) {
             Ok((true, count)) => format!("found, rows {count}"),
             Ok((false, count)) => format!("none, rows {count}"),

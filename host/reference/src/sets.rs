@@ -55,9 +55,9 @@ pub fn word_bytes() -> Set {
     union(&union(&letters, &digits()), &one(b'_'))
 }
 
-/// `\s`: "space is 09 to 0D and 20".
+/// `\s`: "space is 09 to 0D, 20 and A0".
 pub fn spaces() -> Set {
-    union(&range(0x09, 0x0D), &one(0x20))
+    union(&union(&range(0x09, 0x0D), &one(0x20)), &one(0xA0))
 }
 
 /// `.`: "all but 0A and 0D".

@@ -6,7 +6,7 @@ use reference::compile::{compile, compile_tidied};
 use reference::intake;
 use reference::lines::{lines, Answers, Run};
 use reference::refusal::Refusal;
-use reference::steps::{run, Lent};
+use reference::steps::{run, Entry, Lent};
 use reference::tidier::tidy;
 use std::fs;
 use std::path::{Path, PathBuf};
@@ -46,8 +46,8 @@ fn the_matchers_agree() {
             Some(pattern) if compile(pattern.as_bytes(), ROOM, ROOM).is_ok() => pattern,
             _ => continue,
         };
-        matched(pattern, &line.text, 0);
-        searched(pattern, &line.text, 0);
+        answer(pattern, &line.bytes(), 0, Entry::MatchAt);
+        answer(pattern, &line.bytes(), 0, Entry::Search);
     }
 }
 

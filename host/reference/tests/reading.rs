@@ -40,7 +40,7 @@ fn words_of_a_set() {
     assert_eq!(sets::range(0x1F, 0x20), [0x8000_0000, 1, 0, 0, 0, 0, 0, 0]);
     assert_eq!(sets::digits(), [0, 0x03FF_0000, 0, 0, 0, 0, 0, 0]);
     assert_eq!(sets::word_bytes(), [0, 0x03FF_0000, 0x87FF_FFFE, 0x07FF_FFFE, 0, 0, 0, 0]);
-    assert_eq!(sets::spaces(), [0x3E00, 1, 0, 0, 0, 0, 0, 0]);
+    assert_eq!(sets::spaces(), [0x3E00, 1, 0, 0, 0, 1, 0, 0]);
     assert_eq!(sets::dot(), [!0x2400, !0, !0, !0, !0, !0, !0, !0]);
     assert_eq!(sets::complement(&sets::NONE), sets::ALL);
     for byte in 0..=255 {
@@ -128,7 +128,7 @@ fn escapes() {
     let is_word = |byte: &u8| byte.is_ascii_alphanumeric() || *byte == b'_';
     assert_eq!(tree(r"\w"), set((0..=255).filter(is_word)));
     assert_eq!(tree(r"\W"), set((0..=255).filter(|byte| !is_word(byte))));
-    let is_space = |byte: &u8| (0x09..=0x0D).contains(byte) || *byte == 0x20;
+    let is_space = |byte: &u8| (0x09..=0x0D).contains(byte) || [0x20, 0xA0].contains(byte);
     assert_eq!(tree(r"\s"), set((0..=255).filter(is_space)));
     assert_eq!(tree(r"\S"), set((0..=255).filter(|byte| !is_space(byte))));
     assert_eq!(tree(r"\f\n\r\t\v"), seq([0x0C, 0x0A, 0x0D, 0x09, 0x0B].map(literal).to_vec()));

@@ -1,4 +1,4 @@
-//! "Escapes: `\d \D \w \W \s \S` (space is 09 to 0D and 20), `\f \n \r \t \v`,
+//! "Escapes: `\d \D \w \W \s \S` (space is 09 to 0D, 20 and A0), `\f \n \r \t \v`,
 //! `\c` and a letter (letter mod 32), `\x` and two hex digits, `\0` before no
 //! digit, and `\` before any byte that is no letter, digit or `_`."
 
