@@ -1,37 +1,24 @@
--- The bit that the code tests, the bytes that words stand for, and what a row does by its kind.
+-- The bytes that words stand for, and what a row does by its kind.
 -- Assumes nothing.
 use mathlib.Core.Path.{_≡_, sym, ap, _∙_}
 use mathlib.Core.Bool.{false, not}
 use mathlib.Core.Option.{Option, none, some}
 use mathlib.Core.List.{List, [], _∷_}
-use Prim.Native.Nat.{ℕ, zero, suc, _+_, _/_, _%_, _^_, _≤_, _<_}
+use Prim.Native.Nat.{ℕ, zero, suc, _≤_, _<_}
 use native.Mathlib.Omega.{arith}
 use native.Mathlib.Decide.{decLt}
-use lib.Bits.{bitAnd, and-mask}
-use lib.Dec.{eqb, leb}
-use lib.ListN.{getD, drop, List·getD-eq-default}
-use lib.Seq.{getD-take, getD-drop}
+use lib.Dec.{leb}
+use lib.ListN.{List·getD-eq-default}
 use borrow.Author.Tests.{lt-ltb, le-ltb, le-leb, lt-leb, ne-eqb}
-use Rattle.sets.specs.Sets.{has, bit, isWord, isDigit}
-use Rattle.meaning.specs.Limits.{setWords, lastAssertion}
+use Rattle.sets.specs.Sets.{isWord, isDigit}
+use Rattle.meaning.specs.Limits.{lastAssertion}
 use Rattle.meaning.specs.Text.{passes}
 use Rattle.meaning.specs.Bytes.{noByte, atEdge, asserts}
-use Rattle.machine.specs.Kinds.{setWord}
 use Rattle.machine.specs.Words.{wordAt, rowStart, rowIn}
 use Rattle.running_moves.specs.Keys.{rowOf}
-use Rattle.running_moves.specs.Chosen.{byteLimit, byteOf, setIn, chosen}
+use Rattle.running_moves.specs.Chosen.{byteLimit, byteOf, chosen}
 use Rattle.running_moves.specs.Ready.{rowOfKind, row-is}
 use Rattle.running_moves.specs.declared.Move.{Move}
-
--- The bit that the code tests is the set's.
-pub set-bit : (code : List ℕ) (row b : ℕ) → b < byteLimit
-    → eqb (bitAnd (getD code (rowStart row + setWord + b / 32) 0 / 2 ^ (b % 32)) 1) 1 ≡ has (setIn code row) b
-unfolding has bit
-set-bit code row b h =
-    let at : ℕ = rowStart row + setWord in
-    let word : getD (setIn code row) (b / 32) 0 ≡ getD code (at + b / 32) 0
-    = getD-take setWords (drop at code) (b / 32) 0 (omega arith) ∙ getD-drop at code (b / 32) 0 in
-    rw word (ap (λ (k : ℕ). eqb k 1) (and-mask (getD code (at + b / 32) 0 / 2 ^ (b % 32)) 1))
 
 -- The byte that a word stands for, if it stands for one.
 pub byte-there : {b : ℕ} → b < byteLimit → byteOf b ≡ some b

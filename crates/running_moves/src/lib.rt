@@ -31,6 +31,7 @@ use machine::SECOND;
 use machine::SET;
 use meaning::limits::NO_BYTE;
 use meaning::limits::ROW_WORDS;
+use meaning::limits::SET_WORDS;
 
 // What a thread does. A key is row * 2 + flag; a register is numbered from 0, group k's start at 2k and its end at 2k + 1.
 pub enum Move {
@@ -60,7 +61,9 @@ pub fn row_has(code: &[u32], row: usize, b: u32) -> bool
     requires { ⌜ (b < byteLimit) × (rowWords * (row + 2) ≤ length (now code)) ⌝ }
     ensures { λ r. ⌜ r ≡ has (setIn (now (code .entry)) row) b ⌝ }
 {
-    let word = code[ROW_WORDS * (row + 1) + SET + b as usize / 32];
+    let from = ROW_WORDS * (row + 1) + SET;
+    let set = &code[from..from + SET_WORDS];
+    let word = set[b as usize / 32];
     (word >> (b % 32)) & 1 == 1
 }
 
