@@ -29,8 +29,8 @@ extern "C" {
  * refuses more. */
 #define MILLKETTLE_CODE_BYTES 4656
 
-/* Registers that are enough for any code: a start and an end for the whole match and for each of 15 groups. */
-#define MILLKETTLE_REGISTER_BYTES 128
+/* Registers that are enough for any code: a start and an end for the whole match and for each of 31 groups. */
+#define MILLKETTLE_REGISTER_BYTES 256
 
 /* A register of a group that took no part, and of all groups on none. */
 #define MILLKETTLE_UNSET (-1)

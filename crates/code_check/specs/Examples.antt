@@ -28,14 +28,14 @@ abbrev passed : List (List ℕ)
 passed =
     last accept ∷ last (jump 0) ∷ last (fork 0 0) ∷ last (end 0)
     ∷ first 2 (jump 7) ∷ first 2 (fork 7 7) ∷ first 2 (end 7)
-    ∷ first 2 (opens 2) ∷ first 2 (closes 2) ∷ first 0 (opens 0) ∷ first 15 (opens 15)
+    ∷ first 2 (opens 2) ∷ first 2 (closes 2) ∷ first 0 (opens 0) ∷ first 31 (opens 31)
     ∷ first 2 (reset 1 0) ∷ first 2 (reset 1 1) ∷ first 2 (reset 1 2) ∷ first 2 (reset 2 2) ∷ first 0 (reset 1 0)
     ∷ first 2 (assertion 0) ∷ first 2 (assertion 3)
     ∷ changed 15 9 (first 2 begin) ∷ changed 13 999 (first 2 begin) ∷ changed 2 9 (first 2 begin)
     ∷ (first 2 begin ++ (999 ∷ []))
     ∷ []
 
--- These fail: the last row; targets; groups; a Reset's range; an assertion; kinds; 7 rows; 16 groups; too few words.
+-- These fail: the last row; targets; groups; a Reset's range; an assertion; kinds; 7 rows; 32 groups; too few words.
 abbrev failed : List (List ℕ)
 failed =
     last (consume (replicate 8 0)) ∷ last (opens 0) ∷ last (closes 0) ∷ last (reset 1 0) ∷ last begin ∷ last (assertion 0)
@@ -45,7 +45,7 @@ failed =
     ∷ first 2 (reset 2 0) ∷ first 0 (reset 1 1)
     ∷ first 2 (assertion 4)
     ∷ changed 12 0 (first 2 begin) ∷ changed 12 11 (first 2 begin)
-    ∷ codeOf (record { groups = 2; rows = replicate 6 begin ++ (accept ∷ []) }) ∷ first 16 begin
+    ∷ codeOf (record { groups = 2; rows = replicate 6 begin ++ (accept ∷ []) }) ∷ first 32 begin
     ∷ take 107 (first 2 begin) ∷ []
     ∷ []
 
@@ -58,6 +58,6 @@ unfolding codePasses codeOf rowsPass rowIn
 failed-fail = refl
 
 -- The header row's limits.
-header-limits : (headerPasses 8 0 ≡ true) × (headerPasses 7 0 ≡ false) × (headerPasses 1024 15 ≡ true)
-    × (headerPasses 1025 15 ≡ false) × (headerPasses 1024 16 ≡ false)
+header-limits : (headerPasses 8 0 ≡ true) × (headerPasses 7 0 ≡ false) × (headerPasses 1024 31 ≡ true)
+    × (headerPasses 1025 31 ≡ false) × (headerPasses 1024 32 ≡ false)
 header-limits = (refl, refl, refl, refl, refl)

@@ -23,12 +23,16 @@ fn say_registers(registers: &[i32; 4]) {
     say(&line[0..end]);
 }
 
-pub fn say_answer(answer: Answer, registers: &[i32; 4]) {
+pub fn say_run(answer: Answer) {
     match answer {
         Answer::Found(rows) => say_number(b": found, rows ", rows),
         Answer::Missing(rows) => say_number(b": none, rows ", rows),
         Answer::Refused(number) => say_number(b": refused ", number as u64),
     }
+}
+
+pub fn say_answer(answer: Answer, registers: &[i32; 4]) {
+    say_run(answer);
     say_registers(registers);
 }
 

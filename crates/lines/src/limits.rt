@@ -4,6 +4,7 @@ use crate::answers::run;
 use crate::answers::say;
 use crate::answers::say_answer;
 use crate::answers::say_number;
+use crate::answers::say_run;
 
 // A position that 16 bits do not hold.
 pub fn far() {
@@ -54,4 +55,20 @@ pub fn in_order() {
     lend(enough, text, 1, 1, 287);
     lend(enough, text, 1, 2, 287);
     lend(enough, text, 1, 2, 288);
+}
+
+// The most groups, around one byte: each of the 64 registers is written.
+pub fn groups() {
+    let mut table = [0u32; 2048];
+    let mut code = [0u32; 864];
+    let mut registers = [7i32; 64];
+    let mut workspace = [5u32; 37488];
+    let pattern = b"(((((((((((((((((((((((((((((((a)))))))))))))))))))))))))))))))";
+    millkettle::compile(pattern, &mut table, &mut code);
+    say(b"match a in 31 groups on \"a\"");
+    say_run(millkettle::match_at(&code, b"a", 0, &mut registers, &mut workspace));
+    let mut line = [0u8; 1280];
+    let end = intake_report::put_spans(&mut line, 0, &registers, 64);
+    say(b": ");
+    say(&line[0..end]);
 }

@@ -8,9 +8,10 @@ mod questions;
 use libc::STDIN_FILENO;
 
 fn main() {
-    let mut input = [0u8; 4096];
+    let mut input = [0u8; 8192];
     let count = io::read_full(STDIN_FILENO, &mut input);
     questions::ask_all(&input[0..count]);
     limits::far();
     limits::in_order();
+    limits::groups();
 }

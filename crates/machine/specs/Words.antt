@@ -108,7 +108,7 @@ lastPasses p = mayBeLast (rowAt (p .rows) (rowCount p - 1))
 unfoldable pub rowsPass : Program → Bool
 rowsPass p = eachPasses p && lastPasses p
 
--- What it asks of the numbers in the header row: n is 8 to 1,024, g at most 15.
+-- What it asks of the numbers in the header row: n is 8 to 1,024, g at most 31.
 abbrev pub headerPasses : ℕ → ℕ → Bool
 headerPasses n g = between leastRows rowLimit n && leb g groupLimit
 

@@ -27,7 +27,7 @@ depthLimit = 32
 
 -- The most groups (refusals 14 and 20).
 abbrev pub groupLimit : ℕ
-groupLimit = 15
+groupLimit = 31
 
 -- The most rows, and the fewest (refusals 15 and 20).
 abbrev pub rowLimit : ℕ
@@ -48,7 +48,7 @@ codeWords n = rowWords * (n + 1)
 
 -- The longest text, in bytes (refusal 21).
 abbrev pub textLimit : ℕ
-textLimit = 1048576
+textLimit = 16777216
 
 -- A register's word is a position below this number, and -1 from it on.
 abbrev pub positionLimit : ℕ

@@ -12,7 +12,7 @@ pub const NO_MAXIMUM: u32 = COUNT_LIMIT + 1;
 pub const DEPTH_LIMIT: u32 = 32;
 
 // The most groups (refusals 14 and 20).
-pub const GROUP_LIMIT: u32 = 15;
+pub const GROUP_LIMIT: u32 = 31;
 
 // The most rows, and the fewest (refusals 15 and 20).
 pub const ROW_LIMIT: u32 = 1024;
@@ -25,7 +25,7 @@ pub const ROW_WORDS: usize = 12;
 pub const SET_WORDS: usize = 8;
 
 // The longest text, in bytes (refusal 21).
-pub const TEXT_LIMIT: usize = 1048576;
+pub const TEXT_LIMIT: usize = 16777216;
 
 // A register's word is a position below this number, and -1 from it on.
 pub const POSITION_LIMIT: u32 = 2147483648;

@@ -10,7 +10,7 @@ use native.Mathlib.Omega.{arith}
 use lib.ListN.{replicate, getD, length-replicate, getD-replicate}
 use Rattle.sets.specs.Sets.{isDigit, isWord}
 use Rattle.meaning.specs.Quoted.{bytes}
-use Rattle.meaning.specs.Limits.{depthLimit}
+use Rattle.meaning.specs.Limits.{depthLimit, groupLimit}
 use Rattle.meaning.specs.Node.{Node}
 use Rattle.reading_atoms.specs.Chars.{noByte, caret, question, openParen, colon}
 use Rattle.reading_grammar.specs.Atoms.{Is, Dash, Digits, Times, Quantified, Control, Named, EscapedByte, EscapedSet}
@@ -193,14 +193,14 @@ deep-due (suc k) d e =
 pub thirteen : Refuses (opens 33) 13 96
 thirteen = Refuses.deep (deep-due 32 0 refl) refl
 
--- 14: the last of sixteen times `(`.
-full-due : (k d : ℕ) → d + k ≡ depthLimit → k ≤ 15 → Due (replicate 16 openParen) d k k
-full-due zero d e l = subst (λ (x : ℕ). Due (replicate 16 openParen) x 0 0) (omega arith) Due.start
+-- 14: the last of thirty-two times `(`.
+full-due : (k d : ℕ) → d + k ≡ depthLimit → k ≤ groupLimit → Due (replicate 32 openParen) d k k
+full-due zero d e l = subst (λ (x : ℕ). Due (replicate 32 openParen) x 0 0) (omega arith) Due.start
 full-due (suc k) d e l =
-    subst₂ (λ (x y : ℕ). Due (replicate 16 openParen) d x y) (omega arith) (omega arith)
-    (Due.grouped (full-due k (suc d) (omega arith) (omega arith)) (getD-replicate 16 k openParen noByte (omega arith))
-    (λ x. let z : _≡_ {A = ℕ} openParen question = sym (getD-replicate 16 (k + 1) openParen noByte (omega arith)) ∙ x in
+    subst₂ (λ (x y : ℕ). Due (replicate 32 openParen) d x y) (omega arith) (omega arith)
+    (Due.grouped (full-due k (suc d) (omega arith) (omega arith)) (getD-replicate 32 k openParen noByte (omega arith))
+    (λ x. let z : _≡_ {A = ℕ} openParen question = sym (getD-replicate 32 (k + 1) openParen noByte (omega arith)) ∙ x in
     omega arith) (omega arith))
 
-pub fourteen : Refuses (replicate 16 openParen) 14 15
-fourteen = Refuses.full (full-due 15 17 refl (omega arith)) refl (λ x. omega arith) (omega arith)
+pub fourteen : Refuses (replicate 32 openParen) 14 31
+fourteen = Refuses.full (full-due 31 1 refl (omega arith)) refl (λ x. omega arith) (omega arith)

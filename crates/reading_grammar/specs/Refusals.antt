@@ -136,7 +136,7 @@ pub data Refuses (s : List ℕ) : ℕ → ℕ → Type 0 where
   unclosed : {a : ℕ} → Inside s a → a ≡ length s → Refuses s No.unmatched a
   -- 12: a stray ] or }.
   stray : {d a g : ℕ} → Due s d a g → Is s a closeBracket ⊎ Is s a closeBrace → Refuses s No.stray a
-  -- 13: parentheses deeper than 32. 14: a 16th group.
+  -- 13: parentheses deeper than 32. 14: a 32nd group.
   deep : {a g : ℕ} → Due s zero a g → Is s a openParen → Refuses s No.tooDeep a
   full : {d a g : ℕ} → Due s d a g → Is s a openParen → (Is s (a + 1) question → ⊥) → groupLimit ≤ g → Refuses s No.manyGroups a
 

@@ -144,7 +144,7 @@ module _ (s : List ℕ) where
       go (neither n p) e (q, inl (x, y, l)) = before-told (look-whole zero due at q l) (omega arith)
       go (neither n p) e (q, inr (x, y, c, l)) = thirteen (neither n p) e (rw (ne-eqb p a (λ z. omega arith)))
 
-  -- 14: a 16th group; 13 before it at the deepest level.
+  -- 14: a 32nd group; 13 before it at the deepest level.
   full-opening : (a : ℕ) → (Is s (a + 1) question → ⊥) → openingAt s a ≡ capturing
   unfolding openingAt
   full-opening a n = rw (ne-eqb (byteAt s (a + 1)) question n)

@@ -8,7 +8,7 @@ use reference::steps::{self, Entry};
 const MACHINES: [(&str, Run); 2] = [("proved", proved::run), ("plain", plain::run)];
 
 /// What the outline's steps answer, refusals too, and what they leave in registers that held 7.
-fn expected(call: &Call, registers: usize, workspace: usize) -> (Answer, Vec<i32>) {
+pub fn expected(call: &Call, registers: usize, workspace: usize) -> (Answer, Vec<i32>) {
     let entry = if call.row == 0 { Entry::Search } else { Entry::MatchAt };
     let lent = steps::Lent { registers, workspace };
     let mut left = vec![7; registers];
@@ -50,14 +50,14 @@ pub fn lines(code: &[u32], lines: &[Vec<u8>], row: usize) -> (usize, u64) {
 pub fn random_calls(count: usize, seed: u64) -> usize {
     let mut random = Random::new(seed);
     let mut refused = 0;
-    let mut workspace = vec![5; 16 * 1024 * 17];
+    let mut workspace = vec![5; 16 * 1024 * 33];
     for _ in 0..count {
         let whole = random.percent(80);
         let code =
             if whole { generate::code(&mut random) } else { generate::damaged_code(&mut random) };
         let text = generate::text(&mut random, br"(?:a|b)*c?\d");
         let (n, g) = match code.get(..2) {
-            Some(&[n @ 0..=1024, g @ 0..=15]) => (n as usize, g as usize),
+            Some(&[n @ 0..=1024, g @ 0..=31]) => (n as usize, g as usize),
             _ => (8, 0),
         };
         let registers = 2 * (g + 1) + random.below(3) - usize::from(random.percent(5));

@@ -4,6 +4,7 @@
 mod call;
 mod clock;
 mod compare;
+mod long;
 mod plain;
 mod proved;
 mod storm;
@@ -70,6 +71,9 @@ fn measured(question: &Question, lines: &[Vec<u8>], bytes: usize) -> f64 {
 }
 
 fn main() {
+    if std::env::args().nth(1).as_deref() == Some("long") {
+        return long::counted();
+    }
     let refused = compare::random_calls(RANDOM_CALLS, 5);
     println!("{} random calls agree, {} of them refused", RANDOM_CALLS, refused);
     let lines = storm::lines(LINES, 17);

@@ -23,5 +23,5 @@ pub use crate::ffi::{compile, match_at, search, Compiled, Ran};
 /// The code bytes that can be used, of however many are lent: 1,164 words.
 pub const CODE_BYTES: usize = 4 * 1_164;
 
-/// The registers' bytes that the most groups need: a start and an end for each of 15 and the whole.
-pub const REGISTER_BYTES: usize = 4 * 2 * 16;
+/// The registers' bytes that the most groups need: a start and an end for each of 31 and the whole.
+pub const REGISTER_BYTES: usize = 4 * 2 * 32;

@@ -74,8 +74,8 @@ fn the_table_has_room_for_128_bytes_of_any_kind() {
     assert_eq!(compile_into(4_656, &b"a?".repeat(64)), refused(16));
     assert_eq!(compile_into(4_656, &[b'a'; 128]), refused(16));
     assert_eq!(compile_into(4_656, &b"(?:".repeat(42)), Compiled { place: 96, ..refused(13) });
-    let groups = [b"()".repeat(15), vec![b'a'; 58], b"(?:)".repeat(10)].concat();
-    assert_eq!((groups.len(), compile_into(4_656, &groups)), (128, taken(96, 15)));
+    let groups = [b"()".repeat(31), vec![b'a'; 26], b"(?:)".repeat(10)].concat();
+    assert_eq!((groups.len(), compile_into(4_656, &groups)), (128, taken(96, 31)));
 }
 
 #[test]
@@ -150,7 +150,7 @@ fn r20_by_the_codes_words() {
         [7, 8, 11, 12, 97, 1_025, u32::MAX].map(|n| changed(0, n)),
         [20, 20, 0, 20, 20, 20, 20]
     );
-    assert_eq!([0, 1, 15, 16, u32::MAX].map(|g| changed(1, g)), [20, 0, 0, 20, 20]);
+    assert_eq!([0, 1, 31, 32, u32::MAX].map(|g| changed(1, g)), [20, 0, 0, 20, 20]);
     // Row 0 is the Fork of the prefix, row 6 the Open of group 1, row 10 the Accept.
     // As an Assert it would have the operand 5.
     assert_eq!([0, 1, 8, 10, 11, 256].map(|kind| changed(12, kind)), [20, 0, 0, 20, 20, 20]);
@@ -237,14 +237,37 @@ fn r24_by_rows_and_groups() {
     let empty_groups = |groups: usize| code_of(&b"()".repeat(groups));
     assert_eq!(run_number(&empty_groups(12), b"", 0, 128), 0);
     assert_eq!(run_number(&empty_groups(13), b"", 0, 128), 24);
-    assert_eq!(run_number(&empty_groups(15), b"", 0, 128), 24);
+    assert_eq!(run_number(&empty_groups(31), b"", 0, 256), 24);
     // Eight groups and 50 rows have 8,000, 51 rows more.
     let eight = |bytes: usize| code_of(&[b"()".repeat(8), vec![b'a'; bytes]].concat());
     assert_eq!((eight(26).len(), run_number(&eight(26), b"aa", 0, 72)), (48 * 51, 0));
     assert_eq!((eight(27).len(), run_number(&eight(27), b"aa", 0, 72)), (48 * 52, 24));
     // 23 comes before 24, 22 before 23.
-    assert_eq!(run_number(&empty_groups(15), b"", 0, 127), 23);
-    assert_eq!(run_number(&empty_groups(15), b"", 1, 127), 22);
+    assert_eq!(run_number(&empty_groups(31), b"", 0, 255), 23);
+    assert_eq!(run_number(&empty_groups(31), b"", 1, 255), 22);
+}
+
+/// Eight rows that say 31 groups need 4,224 words and run; with 32 they fail the check.
+#[test]
+fn r20_and_r23_by_31_groups() {
+    let rows = |groups: u32| {
+        let mut code = vec![0; 12 * 9];
+        code[..2].copy_from_slice(&[8, groups]);
+        for row in 1..9 {
+            code[12 * row] = 1;
+        }
+        // Open 31, Close 31, Accept.
+        code[12 * 6..12 * 6 + 2].copy_from_slice(&[5, 31]);
+        code[12 * 7..12 * 7 + 2].copy_from_slice(&[6, 31]);
+        bytes_of(&code)
+    };
+    let mut registers = vec![STALE; 260];
+    let ran = raw::match_at(&rows(31), b"a", 1, &mut registers);
+    assert_eq!((ran.number, ran.found, ran.count), (0, 1, 3));
+    let written = [vec![u32::MAX; 62], vec![1, 1]].concat();
+    assert_eq!(registers, [bytes_of(&written), vec![STALE; 4]].concat());
+    assert_eq!(run_number(&rows(31), b"a", 0, 255), 23);
+    assert_eq!(run_number(&rows(32), b"a", 0, 256), 20);
 }
 
 #[test]

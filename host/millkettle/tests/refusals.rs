@@ -104,17 +104,18 @@ fn r13_depth() {
         refused(5, &[(pattern.as_bytes(), 96)]);
     }
     // A group counts like any other parenthesis, and 13 goes before 14.
-    let deep = ["(".repeat(15), "(?:".repeat(17), "(".to_string()].concat();
-    refused(13, &[(deep.as_bytes(), 66)]);
+    let deep = ["(".repeat(31), "(?:(".to_string()].concat();
+    refused(13, &[(deep.as_bytes(), 34)]);
 }
 
 #[test]
 fn r14_groups() {
     let groups = |count: usize, behind: &str| ["()".repeat(count), behind.to_string()].concat();
-    taken(&[groups(15, "").as_bytes(), groups(15, "(?:)").as_bytes()]);
-    refused(14, &[(groups(16, "").as_bytes(), 30), (groups(15, "(").as_bytes(), 30)]);
-    refused(6, &[(groups(15, "(?x").as_bytes(), 31)]);
-    refused(5, &[(groups(15, "(?=").as_bytes(), 30)]);
+    taken(&[groups(31, "").as_bytes(), groups(31, "(?:)").as_bytes()]);
+    refused(14, &[(groups(32, "").as_bytes(), 62), (groups(31, "(").as_bytes(), 62)]);
+    refused(14, &[("(".repeat(32).as_bytes(), 31)]);
+    refused(6, &[(groups(31, "(?x").as_bytes(), 63)]);
+    refused(5, &[(groups(31, "(?=").as_bytes(), 62)]);
 }
 
 #[test]

@@ -40,7 +40,7 @@ pub const BAD_PARENTHESIS: u32 = 11;
 pub const STRAY_BRACKET: u32 = 12;
 /// 13: parentheses deeper than 32.
 pub const TOO_DEEP: u32 = 13;
-/// 14: a 16th group.
+/// 14: a 32nd group.
 pub const TOO_MANY_GROUPS: u32 = 14;
 /// 15: more than 1,024 rows.
 pub const TOO_MANY_ROWS: u32 = 15;
@@ -48,7 +48,7 @@ pub const TOO_MANY_ROWS: u32 = 15;
 pub const CODE_TOO_SMALL: u32 = 16;
 /// 20: code fails its check.
 pub const CODE_FAILS: u32 = 20;
-/// 21: text over 1,048,576 bytes.
+/// 21: text over 16,777,216 bytes.
 pub const TEXT_TOO_LONG: u32 = 21;
 /// 22: start beyond the text's length.
 pub const START_BEYOND: u32 = 22;

@@ -7,7 +7,7 @@ use crate::sets;
 use std::collections::VecDeque;
 
 /// The longest text, in bytes.
-pub const TEXT_LIMIT: usize = 1_048_576;
+pub const TEXT_LIMIT: usize = 16_777_216;
 
 /// Where a run begins.
 #[derive(Clone, Copy, Debug, PartialEq, Eq)]
@@ -38,7 +38,7 @@ pub struct Lent {
 }
 
 /// A run on code words, refused "in order, nothing changed, place 0": 20 code
-/// fails its check; 21 text over 1,048,576 bytes; 22 start beyond the text's
+/// fails its check; 21 text over 16,777,216 bytes; 22 start beyond the text's
 /// length; 23 fewer than 2(g+1) registers; 24 workspace under 16·n·(g+2) words.
 pub fn run(
     code: &[u32],

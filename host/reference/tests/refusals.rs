@@ -285,26 +285,28 @@ fn r13_depth() {
     assert_eq!(at_33("(?!"), (5, 96));
     assert_eq!(at_33("(?<"), (5, 96));
     assert_eq!(at_33("a"), (11, 97));
-    // The 16th group on level 33.
-    let groups = ["()".repeat(15), "(?:".repeat(32), "(".to_string()].concat();
-    assert_eq!(refused(groups.as_bytes()), (13, 126));
+    // The 32nd group on level 33.
+    let groups = ["()".repeat(31), "(?:".repeat(32), "(".to_string()].concat();
+    assert_eq!(refused(groups.as_bytes()), (13, 158));
+    let groups = ["(".repeat(31), "(?:(".to_string()].concat();
+    assert_eq!(refused(groups.as_bytes()), (13, 34));
 }
 
 #[test]
 fn r14_groups() {
-    read_all(&[&"()".repeat(15), &["()".repeat(15), "(?:a)".repeat(9)].concat()]);
-    assert_eq!(reading(&"()".repeat(15)).groups, 15);
-    assert_eq!(refused("()".repeat(16).as_bytes()), (14, 30));
-    assert_eq!(refused("(".repeat(16).as_bytes()), (14, 15));
-    let after_15 =
-        |behind: &str| refused(["()".repeat(15), behind.to_string()].concat().as_bytes());
-    assert_eq!(after_15("a("), (14, 31));
-    assert_eq!(after_15("(?"), (6, 31));
-    assert_eq!(after_15("(?x)"), (6, 31));
-    assert_eq!(after_15("(?="), (5, 30));
-    assert_eq!(after_15("(?:("), (14, 33));
-    assert_eq!(after_15("(*"), (14, 30));
-    assert_eq!(after_15(r"\(("), (14, 32));
+    read_all(&[&"()".repeat(31), &["()".repeat(31), "(?:a)".repeat(9)].concat()]);
+    assert_eq!(reading(&"()".repeat(31)).groups, 31);
+    assert_eq!(refused("()".repeat(32).as_bytes()), (14, 62));
+    assert_eq!(refused("(".repeat(32).as_bytes()), (14, 31));
+    let after_31 =
+        |behind: &str| refused(["()".repeat(31), behind.to_string()].concat().as_bytes());
+    assert_eq!(after_31("a("), (14, 63));
+    assert_eq!(after_31("(?"), (6, 63));
+    assert_eq!(after_31("(?x)"), (6, 63));
+    assert_eq!(after_31("(?="), (5, 62));
+    assert_eq!(after_31("(?:("), (14, 65));
+    assert_eq!(after_31("(*"), (14, 62));
+    assert_eq!(after_31(r"\(("), (14, 64));
 }
 
 #[test]

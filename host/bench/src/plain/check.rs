@@ -2,7 +2,7 @@
 
 use super::*;
 
-const TEXT_LIMIT: usize = 1_048_576;
+const TEXT_LIMIT: usize = 16_777_216;
 
 /// Whether a row passes the check of code with `n` rows and `g` groups.
 fn row_passes(row: &[u32], n: u32, g: u32) -> bool {
@@ -24,7 +24,7 @@ fn passes(code: &[u32]) -> bool {
         return false;
     }
     let (n, g) = (code[0], code[1]);
-    if !(8..=1024).contains(&n) || g > 15 || code.len() < ROW_WORDS * (n as usize + 1) {
+    if !(8..=1024).contains(&n) || g > 31 || code.len() < ROW_WORDS * (n as usize + 1) {
         return false;
     }
     let rows = &code[ROW_WORDS..ROW_WORDS * (n as usize + 1)];

@@ -21,7 +21,7 @@ pub const PATTERN_LIMIT: usize = 2_048;
 /// The deepest parentheses, of both kinds.
 pub const DEPTH_LIMIT: usize = 32;
 /// The most groups.
-pub const GROUP_LIMIT: u32 = 15;
+pub const GROUP_LIMIT: u32 = 31;
 /// The highest count in a quantifier.
 pub const COUNT_LIMIT: u32 = 1_000;
 

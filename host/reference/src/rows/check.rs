@@ -4,7 +4,7 @@ use super::{Program, Row, ROW_LEAST, ROW_LIMIT, ROW_WORDS};
 use crate::reader::GROUP_LIMIT;
 
 /// "Code passes exactly if it has 12(n+1) words or more, unused ones unread, n
-/// is 8 to 1,024, g at most 15, kinds are listed, targets below n, groups at
+/// is 8 to 1,024, g at most 31, kinds are listed, targets below n, groups at
 /// most g (a Reset has 1 ≤ lowest ≤ highest ≤ g, or is 1, 0), Assert operands
 /// 0 to 3, and the last row is Accept, Jump, Fork or End."
 ///
