@@ -1,12 +1,15 @@
 -- Codes that pass the check and codes that fail it by one clause alone, on both sides of each limit, computed.
 use mathlib.Core.Path.{_≡_, refl}
-use mathlib.Core.Bool.{Bool, true, false, not, _&&_}
+use mathlib.Core.Bool.{Bool, true, false, not, _||_, _&&_}
 use mathlib.Core.List.{List, [], _∷_, _++_}
 use Prim.Native.Nat.{ℕ, _+_}
 use lib.ListN.{take, drop, replicate}
+use Rattle.sets.specs.Sets.{below}
+use Rattle.meaning.specs.Limits.{rowWords}
 use Rattle.machine.specs.Rows.{Row, Row.accept, Row.consume, Row.jump, Row.fork, Row.opens, Row.closes, Row.reset}
 use Rattle.machine.specs.Rows.{Row.begin, Row.end, Row.assertion}
-use Rattle.machine.specs.Words.{codeOf, rowIn, rowsPass, headerPasses, codePasses}
+use Rattle.machine.specs.Kinds.{headerUsed, headerZeros, used}
+use Rattle.machine.specs.Words.{wordAt, codeOf, rowIn, rowsPass, headerPasses, codeClean, codePasses}
 
 -- Eight rows with a row before all others, or as the last one.
 abbrev first : ℕ → Row → List ℕ
@@ -23,7 +26,7 @@ abbrev each : (List ℕ → Bool) → List (List ℕ) → Bool
 each test [] = true
 each test (code ∷ more) = test code && each test more
 
--- These pass. Words that a row does not use, and words behind the rows, are not read.
+-- These pass. Words behind the rows are not read.
 abbrev passed : List (List ℕ)
 passed =
     last accept ∷ last (jump 0) ∷ last (fork 0 0) ∷ last (end 0)
@@ -31,8 +34,7 @@ passed =
     ∷ first 2 (opens 2) ∷ first 2 (closes 2) ∷ first 0 (opens 0) ∷ first 31 (opens 31)
     ∷ first 2 (reset 1 0) ∷ first 2 (reset 1 1) ∷ first 2 (reset 1 2) ∷ first 2 (reset 2 2) ∷ first 0 (reset 1 0)
     ∷ first 2 (assertion 0) ∷ first 2 (assertion 3)
-    ∷ changed 15 9 (first 2 begin) ∷ changed 13 999 (first 2 begin) ∷ changed 2 9 (first 2 begin)
-    ∷ (first 2 begin ++ (999 ∷ []))
+    ∷ first 2 (consume (replicate 8 0)) ∷ (first 2 begin ++ (999 ∷ []))
     ∷ []
 
 -- These fail: the last row; targets; groups; a Reset's range; an assertion; kinds; 7 rows; 32 groups; too few words.
@@ -50,12 +52,33 @@ failed =
     ∷ []
 
 passed-pass : each codePasses passed ≡ true
-unfolding codePasses codeOf rowsPass rowIn
+unfolding codePasses codeClean codeOf rowsPass rowIn
 passed-pass = refl
 
 failed-fail : each (λ code. not (codePasses code)) failed ≡ true
-unfolding codePasses codeOf rowsPass rowIn
+unfolding codePasses codeClean codeOf rowsPass rowIn
 failed-fail = refl
+
+-- A row of each kind passes, and fails with a 1 in any word that its kind does not use; so does the header row.
+abbrev rows : List Row
+rows =
+    accept ∷ consume (replicate 8 0) ∷ jump 7 ∷ fork 7 7 ∷ opens 2 ∷ closes 2 ∷ reset 1 0 ∷ begin ∷ end 7 ∷ assertion 3 ∷ []
+
+abbrev stray : Row → Bool
+stray r = codePasses (first 2 r)
+    && below rowWords (λ i. used (wordAt (first 2 r) rowWords) i || not (codePasses (changed (rowWords + i) 1 (first 2 r))))
+
+abbrev eachRow : List Row → Bool
+eachRow [] = true
+eachRow (r ∷ more) = stray r && eachRow more
+
+strays-fail : eachRow rows ≡ true
+unfolding codePasses codeClean codeOf rowsPass rowIn
+strays-fail = refl
+
+header-strays : below headerZeros (λ i. not (codePasses (changed (headerUsed + i) 1 (first 2 begin)))) ≡ true
+unfolding codePasses codeClean codeOf rowsPass rowIn
+header-strays = refl
 
 -- The header row's limits.
 header-limits : (headerPasses 8 0 ≡ true) × (headerPasses 7 0 ≡ false) × (headerPasses 1024 31 ≡ true)

@@ -9,7 +9,7 @@ use Rattle.meaning.specs.Node.{lo, hi}
 use Rattle.meaning.specs.Flat.{parts}
 use Rattle.machine.specs.Steps.{run, steps}
 use Rattle.machine.specs.Layout.{sizeOf, rowsOf, past, anyByte}
-use Rattle.machine.specs.Words.{codeOf, rowIn, rowsPass, codePasses}
+use Rattle.machine.specs.Words.{codeOf, rowIn, rowsPass, codeClean, codePasses}
 use Rattle.machine.specs.Replies.{refusal, reply, registersAfter}
 use Rattle.reading_atoms.specs.Escapes.{escapeAt}
 use Rattle.reading_atoms.specs.Classes.{classAtom, classGo, classAt}
@@ -30,5 +30,5 @@ unfolding intakeOutput lineFor linesOf headerLine refusedAt refusedRun noneLine 
     digits reading alternativesGo sequenceGo itemAt itemBy openingAt quantifierAt bracesAt numberAt numberGo classAt classGo
     classAtom
     escapeAt parts isDigit isWord isDot sizeOf rowsOf past anyByte setOf wordOf has bit lo hi codeOf
-    refusal reply registersAfter rowsPass codePasses rowIn run steps unset fits holdsAt asserts opened closed cleared wiped
+    refusal reply registersAfter rowsPass codePasses codeClean rowIn run steps unset fits holdsAt asserts opened closed cleared wiped
 outline-lines = (refl, refl, refl, refl)

@@ -1,10 +1,10 @@
 -- What code says: each row of the decoded program, and that code which was written from a program says that program.
 use mathlib.Core.Path.{_≡_, refl, sym, ap, ap₂, _∙_}
-use mathlib.Core.Bool.{Bool, true, false, _&&_}
+use mathlib.Core.Bool.{Bool, true, false, _||_, _&&_}
 use mathlib.Core.List.{List, [], _∷_, _++_, append-assoc}
 use Prim.Native.Nat.{ℕ, zero, suc, _+_, _*_, _≤_, _<_}
 use native.Mathlib.Omega.{arith}
-use lib.Dec.{leb}
+use lib.Dec.{eqb, leb}
 use lib.ListN.{length, getD, take, drop, replicate, length-append}
 use lib.Seq.{getD-append-add, drop-append-add, take-at, ext-getD}
 use borrow.Author.Tests.{le-leb}
@@ -20,9 +20,9 @@ use Rattle.machine.specs.Rows.{Program, rowCount, rowAt}
 use Rattle.machine.specs.Layout.{sizeOf, programOf}
 use Rattle.machine.specs.Laid.{Stand, program-stands}
 use Rattle.machine.specs.Compiled.{Rules, every-row, compiled-passes}
-use Rattle.machine.specs.Kinds.{headerZeros, listed}
+use Rattle.machine.specs.Kinds.{headerZeros, listed, used}
 use Rattle.machine.specs.Words.{wordAt, rowStart, decodeRow, rowIn, rowsIn, decode, wordsOf, codeOf, rowsPass}
-use Rattle.machine.specs.Words.{headerPasses, codePasses}
+use Rattle.machine.specs.Words.{headerPasses, rowClean, codeClean, codePasses}
 
 -- The rows of decoded code, by their address.
 pub rowsIn-length : (code : List ℕ) (n q : ℕ) → length (rowsIn code n q) ≡ n
@@ -76,8 +76,26 @@ row-listed begin rest = refl
 row-listed (end t) rest = refl
 row-listed (assertion a) rest = refl
 
-and-all : (a b c d : Bool) → a ≡ true → b ≡ true → c ≡ true → d ≡ true → (a && b && c && d) ≡ true
-and-all a b c d ha hb hc hd = rw (ha, hb, hc, hd)
+-- The words of a row that its kind does not use are zero.
+row-clean : (row : Row) (rest : List ℕ) → let words : List ℕ = wordsOf row ++ rest in
+    below rowWords (λ i. used (getD words 0 0) i || eqb (getD words i 0) 0) ≡ true
+row-clean accept rest = refl
+row-clean (consume s) rest = refl
+row-clean (jump t) rest = refl
+row-clean (fork t u) rest = refl
+row-clean (opens k) rest = refl
+row-clean (closes k) rest = refl
+row-clean (reset l h) rest = refl
+row-clean begin rest = refl
+row-clean (end t) rest = refl
+row-clean (assertion a) rest = refl
+
+below-same : (n : ℕ) (test other : ℕ → Bool) → ((i : ℕ) → test i ≡ other i) → below n test ≡ below n other
+below-same zero test other h = refl
+below-same (suc n) test other h = ap₂ _&&_ (h n) (below-same n test other h)
+
+and-all : (a b c d e : Bool) → a ≡ true → b ≡ true → c ≡ true → d ≡ true → e ≡ true → (a && b && c && d && e) ≡ true
+and-all a b c d e ha hb hc hd he = rw (ha, hb, hc, hd, he)
 
 -- Words cut at the place where a row's words stand.
 record Cut (words : List ℕ) (row : Row) (place : ℕ) : Type 0 where
@@ -147,6 +165,15 @@ module _ (p : Program) (whole : (q : ℕ) → q < rowCount p → Whole (rowAt (p
         = ap₂ wordAt (c .parts) (omega (arith, c .long)) ∙ getD-append-add (c .before) words 0 0 in
         ap listed e ∙ row-listed (rowAt (p .rows) q) (c .after)
 
+    clean-back : (q : ℕ) → q < rowCount p → rowClean code q ≡ true
+    clean-back q h =
+        let c : Cut code (rowAt (p .rows) q) (rowStart q) = cut-code q h in
+        let words : List ℕ = wordsOf (rowAt (p .rows) q) ++ c .after in
+        let at : (i : ℕ) → wordAt code (rowStart q + i) ≡ getD words i 0
+        = λ i. ap₂ (λ l k. wordAt l (k + i)) (c .parts) (sym (c .long)) ∙ getD-append-add (c .before) words i 0 in
+        let kind : wordAt code (rowStart q) ≡ getD words 0 0 = ap (wordAt code) (omega arith) ∙ at 0 in
+        below-same rowWords _ _ (λ i. ap₂ (λ k w. used k i || eqb w 0) kind (at i)) ∙ row-clean (rowAt (p .rows) q) (c .after)
+
     -- Code says the program that it was written from.
     pub code-says : decode code ≡ p
     unfolding codeOf
@@ -161,15 +188,16 @@ module _ (p : Program) (whole : (q : ℕ) → q < rowCount p → Whole (rowAt (p
     -- It passes the check if its rows do and its numbers are within the limits.
     pub code-passes : rowsPass p ≡ true → leastRows ≤ rowCount p → rowCount p ≤ rowLimit → p .groups ≤ groupLimit
         → codePasses code ≡ true
-    unfolding codePasses codeOf
+    unfolding codePasses codeClean codeOf
     code-passes pass low high few =
         let n : ℕ = rowCount p in
         let long : codeWords n ≤ length code = omega (arith, length-append (codeOf p) rest, code-length) in
         let header : headerPasses n (p .groups) ≡ true
         = rw (le-leb leastRows n low, le-leb n rowLimit high, le-leb (p .groups) groupLimit few) in
         and-all (leb (codeWords n) (length code)) (headerPasses n (p .groups))
-        (below n (λ q. listed (wordAt code (rowStart q)))) (rowsPass (decode code))
+        (below n (λ q. listed (wordAt code (rowStart q)))) (rowsPass (decode code)) (codeClean code)
         (le-leb (codeWords n) (length code) long) header (below-all n _ kind-back) (ap rowsPass code-says ∙ pass)
+        (below-all n _ clean-back)
 
 -- Each row of a pattern's program is 12 words.
 whole-rules : (n g : ℕ) → Rules n g Whole

@@ -12,6 +12,7 @@ pub mod Passed
 pub mod Compiled
 pub mod Answers
 pub mod Coded
+pub mod Checked
 pub mod Replies
 pub mod Allowed
 pub mod Width

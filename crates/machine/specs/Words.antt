@@ -8,7 +8,7 @@ use lib.ListN.{length, getD, take, drop, replicate}
 use Rattle.sets.specs.Sets.{below, between}
 use Rattle.meaning.specs.Results.{concatMap}
 use Rattle.meaning.specs.Limits.{groupLimit, rowLimit, leastRows, rowWords, setWords, codeWords, lastAssertion}
-use Rattle.machine.specs.Kinds.{rowsWord, groupsWord, headerZeros, firstWord, secondWord, setWord, listed}
+use Rattle.machine.specs.Kinds.{rowsWord, groupsWord, headerUsed, headerZeros, firstWord, secondWord, setWord, listed, used}
 use Rattle.machine.specs.Kinds.{acceptKind, consumeKind, jumpKind, forkKind, openKind, closeKind, resetKind, beginKind}
 use Rattle.machine.specs.Kinds.{endKind, assertKind}
 use Rattle.machine.specs.Rows.{Row, Row.accept, Row.consume, Row.jump, Row.fork, Row.opens, Row.closes, Row.reset}
@@ -112,8 +112,19 @@ rowsPass p = eachPasses p && lastPasses p
 abbrev pub headerPasses : ℕ → ℕ → Bool
 headerPasses n g = between leastRows rowLimit n && leb g groupLimit
 
--- The check: 12(n+1) words or more, the header row's numbers, kinds listed, and what is asked of the rows.
+-- What it asks of the words that the header row does not use, and of those that row q does not use: they are zero.
+abbrev pub headerClean : List ℕ → Bool
+headerClean code = below rowWords (λ i. ltb i headerUsed || eqb (wordAt code i) 0)
+
+abbrev pub rowClean : List ℕ → ℕ → Bool
+rowClean code q = below rowWords (λ i. used (wordAt code (rowStart q)) i || eqb (wordAt code (rowStart q + i)) 0)
+
+unfoldable pub codeClean : List ℕ → Bool
+codeClean code = headerClean code && below (rowsSaid code) (rowClean code)
+
+-- The check: 12(n+1) words or more, those behind the rows unread, the header row's numbers, kinds listed, what is asked of the
+-- rows, and no word set that is not used.
 unfoldable pub codePasses : List ℕ → Bool
 codePasses code =
     leb (codeWords (rowsSaid code)) (length code) && headerPasses (rowsSaid code) (groupsSaid code)
-    && below (rowsSaid code) (λ q. listed (wordAt code (rowStart q))) && rowsPass (decode code)
+    && below (rowsSaid code) (λ q. listed (wordAt code (rowStart q))) && rowsPass (decode code) && codeClean code

@@ -5,12 +5,17 @@ pub const ROWS: usize = 0;
 
 pub const GROUPS: usize = 1;
 
+// How many words of the header row are used.
+pub const HEADER_USED: usize = 2;
+
 // The words of a row: its kind, two operands, a zero, and a byte set.
 pub const KIND: usize = 0;
 
 pub const FIRST: usize = 1;
 
 pub const SECOND: usize = 2;
+
+pub const FOURTH: usize = 3;
 
 pub const SET: usize = 4;
 

@@ -21,6 +21,7 @@ use Rattle.machine.specs.Rows.{rowCount, rowAt}
 use Rattle.machine.specs.Kinds.{firstWord, secondWord, acceptKind, assertKind, listed}
 use Rattle.machine.specs.Words.{wordAt, rowsSaid, groupsSaid, rowStart, decodeRow, rowIn, rowsIn, decode, rowPasses}
 use Rattle.machine.specs.Words.{mayBeLast, eachPasses, lastPasses, rowsPass, headerPasses, codePasses}
+use Rattle.machine.specs.Checked.{Checked, checked}
 use Rattle.machine.specs.Coded.{rowsIn-at, rowsIn-length}
 use Rattle.running_moves.specs.Keys.{keyNumber, keysOf, rowOf, flagOf, nextKey}
 use Rattle.running_moves.specs.Chosen.{setIn, chosen, Ranged}
@@ -47,26 +48,15 @@ module _ (code : List ℕ) (pass : codePasses code ≡ true) where
   abbrev g : ℕ
   g = groupsSaid code
 
-  parts : (((leb (codeWords n) (length code) && headerPasses n g) && below n
-      (λ q. listed (wordAt code (rowStart q)))) ≡ true) × (rowsPass (decode code) ≡ true)
-  unfolding codePasses
-  parts = and-true ((leb (codeWords n) (length code) && headerPasses n g) && below n
-      (λ q. listed (wordAt code (rowStart q)))) (rowsPass (decode code)) pass
-
-  kinds : ((leb (codeWords n) (length code) && headerPasses n g) ≡ true) ×
-      (below n (λ q. listed (wordAt code (rowStart q))) ≡ true)
-  kinds = and-true (leb (codeWords n) (length code) && headerPasses n g)
-      (below n (λ q. listed (wordAt code (rowStart q)))) (parts .0)
-
-  long : (leb (codeWords n) (length code) ≡ true) × (headerPasses n g ≡ true)
-  long = and-true (leb (codeWords n) (length code)) (headerPasses n g) (kinds .0)
+  ok : Checked code
+  ok = checked code pass
 
   header : (between leastRows rowLimit n ≡ true) × (leb g groupLimit ≡ true)
-  header = and-true (between leastRows rowLimit n) (leb g groupLimit) (long .1)
+  header = and-true (between leastRows rowLimit n) (leb g groupLimit) (ok .header)
 
   both-pass : (eachPasses (decode code) ≡ true) × (lastPasses (decode code) ≡ true)
   unfolding rowsPass
-  both-pass = and-true (eachPasses (decode code)) (lastPasses (decode code)) (parts .1)
+  both-pass = and-true (eachPasses (decode code)) (lastPasses (decode code)) (ok .rows)
 
   here : (q : ℕ) → q < n → rowAt (rowsIn code n 0) q ≡ rowIn code q
   here q h = rowsIn-at code n 0 q h ∙ ap (rowIn code) (omega arith)
@@ -92,15 +82,14 @@ module _ (code : List ℕ) (pass : codePasses code ≡ true) where
 
   pub ready : Ready code
   ready = record {
-    size = leb-true (codeWords n) (length code) (long .0);
+    size = ok .long;
     least = within leastRows rowLimit n (header .0) .0;
     most = within leastRows rowLimit n (header .0) .1;
     groups = leb-true g groupLimit (header .1);
-    listed = λ q h. within acceptKind assertKind (wordAt code (rowStart q))
-        (below-at n (λ q. listed (wordAt code (rowStart q))) (kinds .1) q h);
+    listed = λ q h. within acceptKind assertKind (wordAt code (rowStart q)) (ok .kinds q h);
     passing = each;
     next = after;
-    rows = parts .1;
+    rows = ok .rows;
   }
 
 -- Row q as a row of a kind, and that it is the row of the kind that the code says.

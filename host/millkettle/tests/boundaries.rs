@@ -158,8 +158,9 @@ fn r20_by_the_codes_words() {
     assert_eq!([10, 11, u32::MAX].map(|target| changed(14, target)), [0, 20, 20]);
     assert_eq!([0, 1, 2].map(|group| changed(12 * 7 + 1, group)), [0, 0, 20]);
     assert_eq!([1, 2, 3, 4, 5, 9].map(|kind| changed(12 * 11, kind)), [0, 20, 0, 0, 20, 0]);
-    // Words that a kind does not use are unread.
-    assert_eq!([2, 11, 15, 16, 12 * 11 + 1].map(|word| changed(word, u32::MAX)), [0; 5]);
+    // Words that a kind does not use are zero: of the header row, a Fork, an Accept.
+    assert_eq!([2, 11, 15, 16, 12 * 11 + 1].map(|word| changed(word, u32::MAX)), [20; 5]);
+    assert_eq!([2, 11, 15, 16, 12 * 11 + 1].map(|word| changed(word, 1)), [20; 5]);
 }
 
 #[test]

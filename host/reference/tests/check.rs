@@ -31,27 +31,30 @@ fn with(kind: u32, first: u32, second: u32) -> bool {
     passes(&code(8, 2, row(kind, first, second), row(1, 0, 0)))
 }
 
-/// Code of 8 rows with this row at its end.
+/// Code of 8 rows with this row at its end, with an operand or without.
 fn ending(kind: u32) -> bool {
-    passes(&code(8, 2, row(8, 0, 0), row(kind, 1, 0)))
+    [0, 1].iter().any(|&first| passes(&code(8, 2, row(8, 0, 0), row(kind, first, 0))))
 }
 
 #[test]
 fn kinds_and_operands() {
     const ANY: u32 = u32::MAX;
     assert!(!with(0, 0, 0) && !with(11, 0, 0) && !with(ANY, 0, 0));
-    assert!(with(1, ANY, ANY));
-    assert!(with(2, ANY, ANY));
-    assert!(with(3, 7, ANY) && !with(3, 8, 0) && !with(3, ANY, 0));
+    for kind in [1, 2, 8] {
+        assert!(with(kind, 0, 0) && !with(kind, 1, 0) && !with(kind, 0, ANY));
+    }
+    for kind in [3, 5, 6, 9, 10] {
+        assert!(with(kind, 1, 0) && !with(kind, 1, 1) && !with(kind, 1, ANY));
+    }
+    assert!(with(3, 7, 0) && !with(3, 8, 0) && !with(3, ANY, 0));
     assert!(with(4, 7, 7) && !with(4, 8, 0) && !with(4, 0, 8));
-    assert!(with(5, 0, ANY) && with(5, 2, ANY) && !with(5, 3, 0));
-    assert!(with(6, 0, ANY) && with(6, 2, ANY) && !with(6, 3, 0));
+    assert!(with(5, 0, 0) && with(5, 2, 0) && !with(5, 3, 0));
+    assert!(with(6, 0, 0) && with(6, 2, 0) && !with(6, 3, 0));
     assert!(with(7, 1, 0) && with(7, 1, 1) && with(7, 1, 2) && with(7, 2, 2));
     assert!(!with(7, 0, 0) && !with(7, 0, 1) && !with(7, 2, 1) && !with(7, 1, 3));
     assert!(!with(7, 2, 0) && !with(7, 3, 2) && !with(7, 3, 3));
-    assert!(with(8, ANY, ANY));
-    assert!(with(9, 7, ANY) && !with(9, 8, 0));
-    assert!(with(10, 0, ANY) && with(10, 3, ANY) && !with(10, 4, 0));
+    assert!(with(9, 7, 0) && !with(9, 8, 0));
+    assert!(with(10, 0, 0) && with(10, 3, 0) && !with(10, 4, 0));
 }
 
 #[test]
@@ -83,13 +86,28 @@ fn header_and_length() {
 }
 
 #[test]
-fn unused_words_are_unread() {
-    let mut words = code(8, 0, row(8, 0, 0), row(1, 0, 0));
-    words[2..12].fill(5);
-    for number in 0..8 {
-        words[12 * (number + 1) + 1..12 * (number + 2)].fill(u32::MAX);
+fn unused_words_are_zero() {
+    let words = code(8, 0, row(8, 0, 0), row(1, 0, 0));
+    // The words that are used: n, g, and the kinds.
+    let used = |word: usize| word < 2 || (word >= 12 && word % 12 == 0);
+    for word in (0..words.len()).filter(|&word| !used(word)) {
+        for stray in [1, 1 << 31] {
+            let mut changed = words.clone();
+            changed[word] = stray;
+            assert!(!passes(&changed), "{word}");
+        }
     }
-    assert!(passes(&words));
+    let consume = [2, 0, 0, 0, 0, 0, 0, 0, 0, 0, 0, 0];
+    let mut empty_set = words.clone();
+    empty_set[12..24].copy_from_slice(&consume);
+    assert!(passes(&empty_set));
+    for word in 13..16 {
+        let mut changed = empty_set.clone();
+        changed[word] = 1;
+        assert!(!passes(&changed), "{word}");
+    }
+    // Words behind the rows are unread.
+    assert!(passes(&[words, vec![7; 5]].concat()));
 }
 
 #[test]

@@ -4,12 +4,17 @@ use mathlib.Core.Bool.{true}
 use mathlib.Core.List.{List}
 use Prim.Native.Nat.{ℕ, _-_, _≤_, _<_}
 use native.Mathlib.Omega.{arith}
+use lib.Bits.{bitOr}
+use lib.Dec.{eqb}
+use lib.ListN.{length}
 use borrow.Author.Count.{below-none, below-more}
 use borrow.Author.Needs.{needs}
-use borrow.Author.Tests.{not-true, not-false}
-use Rattle.meaning.specs.Limits.{rowLimit}
-use Rattle.machine.specs.Words.{rowsSaid, groupsSaid, headerPasses}
-use Rattle.code_check.specs.Check.{rowChecked, too-short, header-fails, row-fails, some-rows, last-listed, last-decides}
+use borrow.Author.Tests.{not-true, not-false, eq-eqb, ne-eqb}
+use Rattle.meaning.specs.Limits.{rowLimit, codeWords}
+use Rattle.machine.specs.Kinds.{headerUsed}
+use Rattle.machine.specs.Words.{wordAt, rowsSaid, groupsSaid, headerPasses, headerClean}
+use Rattle.code_check.specs.Check.{rowChecked, header-rest, too-short, header-fails, header-stray, row-fails, some-rows}
+use Rattle.code_check.specs.Check.{last-listed, last-decides}
 use Rattle.code_check.proofs.check.Statement.{statement}
 use Rattle.code_check.proofs.check.Tie as tie
 
@@ -50,55 +55,79 @@ mul-if3 c = omega (arith, few c)
 short : tie.Need-returns-3 Inv-loop μ-loop
 short c = sym (too-short (code (c .before)) (c .if3 .taken))
 
+-- Once the words that the header row does not use were looked at.
+module _ (c : tie.After-rest-of Inv-loop μ-loop) where
+  abbrev asked : List ℕ
+  asked = code (c .before .before .before)
+
+  looked : eqb (bitOr (wordAt asked headerUsed) (c .rest-of .result)) 0 ≡ headerClean asked
+  looked = header-rest asked (c .rest-of .result) (c .rest-of .ensures)
+
+stray : tie.Need-returns-4 Inv-loop μ-loop
+stray c = sym (header-stray (asked (c .before)) (sym (looked (c .before)) ∙ ne-eqb _ 0 (c .if4 .taken)))
+
 loop-holds : tie.Need-loop-holds Inv-loop μ-loop
 loop-holds c = below-none _
 
 row-passes-requires : tie.Need-row-passes-requires Inv-loop μ-loop
-row-passes-requires c κs = omega (arith, c .loop-test .taken, c .before .before .if3 .left)
+row-passes-requires c κs = omega (arith, c .loop-test .taken, c .before .before .before .before .before .if3 .left)
 
-fails : tie.Need-returns-4 Inv-loop μ-loop
+fails : tie.Need-returns-5 Inv-loop μ-loop
 fails c =
-    sym (row-fails (code (c .before .before .before .before .before)) (c .before .before .before .loop .q)
-    (c .before .before .loop-test .taken) (sym (c .before .row-passes .ensures) ∙ not-true _ (c .if4 .taken)))
+    sym (row-fails (asked (c .before .before .before .before .before)) (c .before .before .before .loop .q)
+    (c .before .before .loop-test .taken) (sym (c .before .row-passes .ensures) ∙ not-true _ (c .if5 .taken)))
 
 add-q : tie.Need-add-q Inv-loop μ-loop
-add-q c = omega (arith, c .before .before .loop-test .taken, few (c .before .before .before .before .before))
+add-q c =
+    omega (arith, c .before .before .loop-test .taken, few (c .before .before .before .before .before .before .before .before))
 
 loop-less : tie.Need-loop-less Inv-loop μ-loop
 loop-less c = omega (arith, c .before .before .loop-test .taken)
 
 loop-again : tie.Need-loop-again Inv-loop μ-loop
 loop-again c =
-    below-more _ _ (c .before .before .before .loop .inv) (sym (c .before .row-passes .ensures) ∙ not-false _ (c .if4 .left))
+    below-more _ _ (c .before .before .before .loop .inv) (sym (c .before .row-passes .ensures) ∙ not-false _ (c .if5 .left))
 
 mul-may-be-last : tie.Need-mul-may-be-last Inv-loop μ-loop
-mul-may-be-last c = omega (arith, few (c .before .before .before))
+mul-may-be-last c = omega (arith, few (c .before .before .before .before .before .before))
 
 mul-may-be-last-2 : tie.Need-mul-may-be-last-2 Inv-loop μ-loop
-mul-may-be-last-2 c = omega (arith, few (c .before .before .before))
+mul-may-be-last-2 c = omega (arith, few (c .before .before .before .before .before .before))
 
 read-last : tie.Need-shared-slice-read-may-be-last Inv-loop μ-loop
-read-last c = omega (arith, c .before .before .before .if3 .left)
+read-last c = omega (arith, c .before .before .before .before .before .before .if3 .left)
 
 -- After the loop: every row passed.
-all : (c : tie.After-loop Inv-loop μ-loop) → let code = code (c .before .before .before) in
-    (q : ℕ) → q < rowsSaid code → rowChecked code (rowsSaid code) (groupsSaid code) q ≡ true
-all c q h = c .before .loop .inv q (omega (arith, c .loop-test .left))
+module _ (c : tie.After-loop Inv-loop μ-loop) where
+  abbrev rested : tie.After-rest-of Inv-loop μ-loop
+  rested = c .before .before .before
+
+  all : (q : ℕ) → q < rowsSaid (asked rested)
+      → rowChecked (asked rested) (rowsSaid (asked rested)) (groupsSaid (asked rested)) q ≡ true
+  all q h = c .before .loop .inv q (omega (arith, c .loop-test .left))
+
+  within : headerPasses (rowsSaid (asked rested)) (groupsSaid (asked rested)) ≡ true
+  within = header (rested .before .before .before)
+
+  long : codeWords (rowsSaid (asked rested)) ≤ length (asked rested)
+  long = rested .before .before .if3 .left
+
+  clean : headerClean (asked rested) ≡ true
+  clean = sym (looked rested) ∙ eq-eqb _ 0 (c .before .before .if4 .left)
 
 may-be-last-requires : tie.Need-may-be-last-requires Inv-loop μ-loop
 may-be-last-requires c κs =
-    let back = c .before .before .before .before in
-    last-listed (code back) (header back) (c .before .before .before .if3 .left) (all (c .before))
+    last-listed (asked (rested (c .before))) (within (c .before)) (long (c .before)) (clean (c .before)) (all (c .before))
 
-last : tie.Need-returns-5 Inv-loop μ-loop
+last : tie.Need-returns-6 Inv-loop μ-loop
 last c =
-    let back = c .before .before .before .before .before in
-    last-decides (code back) (header back) (c .before .before .before .before .if3 .left) (all (c .before .before))
+    let loop = c .before .before in
+    last-decides (asked (rested loop)) (within loop) (long loop) (clean loop) (all loop)
     (c .may-be-last .result) (c .may-be-last .ensures)
 
 pub check-spec : {M : Type 1} → statement M
 check-spec =
     tie.close
     (tie.spec Inv-loop μ-loop no-header (λ c. search needs) (λ c. search needs) (λ c κs. search needs) beyond cast-rows add-if3
-    mul-if3 short loop-holds row-passes-requires fails add-q loop-less loop-again mul-may-be-last mul-may-be-last-2 read-last
+    mul-if3 short (λ c. search needs) (λ c κs. search needs) stray loop-holds row-passes-requires fails add-q loop-less loop-again mul-may-be-last mul-may-be-last-2 read-last
     may-be-last-requires last)

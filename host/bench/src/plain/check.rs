@@ -7,13 +7,15 @@ const TEXT_LIMIT: usize = 16_777_216;
 /// Whether a row passes the check of code with `n` rows and `g` groups.
 fn row_passes(row: &[u32], n: u32, g: u32) -> bool {
     let (a, b) = (row[1], row[2]);
+    let rest = row[3..].iter().fold(0, |rest, word| rest | word);
     match row[0] {
-        ACCEPT | CONSUME | BEGIN => true,
-        JUMP | END => a < n,
-        FORK => a < n && b < n,
-        OPEN | CLOSE => a <= g,
-        RESET => (a, b) == (1, 0) || (1 <= a && a <= b && b <= g),
-        ASSERT => a <= 3,
+        ACCEPT | BEGIN => a | b | rest == 0,
+        CONSUME => a | b | row[3] == 0,
+        JUMP | END => a < n && b | rest == 0,
+        FORK => a < n && b < n && rest == 0,
+        OPEN | CLOSE => a <= g && b | rest == 0,
+        RESET => ((a, b) == (1, 0) || (1 <= a && a <= b && b <= g)) && rest == 0,
+        ASSERT => a <= 3 && b | rest == 0,
         _ => false,
     }
 }
@@ -25,6 +27,9 @@ fn passes(code: &[u32]) -> bool {
     }
     let (n, g) = (code[0], code[1]);
     if !(8..=1024).contains(&n) || g > 31 || code.len() < ROW_WORDS * (n as usize + 1) {
+        return false;
+    }
+    if code[2..ROW_WORDS].iter().any(|&word| word != 0) {
         return false;
     }
     let rows = &code[ROW_WORDS..ROW_WORDS * (n as usize + 1)];

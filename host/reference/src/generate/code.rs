@@ -7,8 +7,8 @@ use crate::reader::GROUP_LIMIT;
 use crate::rows::{ROW_LEAST, ROW_WORDS};
 use crate::sets;
 
-/// Code that passes the check: rows of any kind in any order, with anything in
-/// the words that are not read.
+/// Code that passes the check: rows of any kind in any order, and anything
+/// behind them.
 pub fn code(random: &mut Random) -> Vec<u32> {
     let n = match random.below(10) {
         0 => random.between(40, 120),
@@ -16,7 +16,7 @@ pub fn code(random: &mut Random) -> Vec<u32> {
     };
     let g = random.pick(&[0, 0, 1, 2, 3, GROUP_LIMIT as usize]).unwrap_or(0);
     let mut words = vec![n as u32, g as u32];
-    words.resize_with(ROW_WORDS, || stray(random));
+    words.resize(ROW_WORDS, 0);
     let few_accepts = random.percent(70);
     for row in 0..n {
         let kinds: &[u32] = match (row + 1 == n, few_accepts) {
@@ -68,7 +68,7 @@ fn compiled(random: &mut Random) -> Vec<u32> {
 
 /// A row of this kind whose operands are in their bounds.
 fn row_words(random: &mut Random, kind: u32, row: usize, n: usize, g: usize) -> Vec<u32> {
-    let mut operands = [stray(random), stray(random)];
+    let mut operands = [0, 0];
     match kind {
         3 | 9 => operands[0] = target(random, row, n),
         4 => operands = [target(random, row, n), target(random, row, n)],
@@ -81,11 +81,11 @@ fn row_words(random: &mut Random, kind: u32, row: usize, n: usize, g: usize) -> 
         10 => operands[0] = random.below(4) as u32,
         _ => {}
     }
-    let mut words = vec![kind, operands[0], operands[1], stray(random)];
+    let mut words = vec![kind, operands[0], operands[1], 0];
     let set = random.pick(&[sets::ALL, sets::one(b'a'), sets::range(b'a', b'b'), sets::dot()]);
     match set {
         Some(set) if kind == 2 => words.extend(set),
-        _ => words.extend((0..8).map(|_| stray(random))),
+        _ => words.extend([0; 8]),
     }
     words
 }
@@ -96,14 +96,5 @@ fn target(random: &mut Random, row: usize, n: usize) -> u32 {
         random.between(row.saturating_sub(3), (row + 4).min(n - 1)) as u32
     } else {
         random.below(n) as u32
-    }
-}
-
-/// A word that nobody reads.
-fn stray(random: &mut Random) -> u32 {
-    if random.percent(80) {
-        0
-    } else {
-        random.next() as u32
     }
 }

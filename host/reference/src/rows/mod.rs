@@ -67,8 +67,8 @@ impl Row {
         [kind, first, second, 0, s[0], s[1], s[2], s[3], s[4], s[5], s[6], s[7]]
     }
 
-    /// The row that 12 words say, words its kind doesn't use unread; nothing
-    /// if the kind is not listed.
+    /// The row that 12 words say, whatever stands in words its kind doesn't use;
+    /// nothing if the kind is not listed.
     pub fn of_words(words: &[u32; ROW_WORDS]) -> Option<Row> {
         let &[kind, first, second, _, s0, s1, s2, s3, s4, s5, s6, s7] = words;
         match kind {
