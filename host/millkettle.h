@@ -1,13 +1,15 @@
 /* Millkettle for C and for whatever speaks C: a regular-expression matcher whose every promise is proved.
  *
- * Link target/staticlib/libhost.a, which `rt staticlib host` writes for x86-64 Linux. Of C it needs memcpy, memmove
- * and memset and nothing else: no heap, no file, no global state, so calls may run at the same time on memory of
- * their own.
+ * There are two sets of calls. Those on bytes are in target/staticlib/libhost.a, have the intake program's sizes and
+ * bring their own memory; those on words (`.._words`) are in target/staticlib/libengine_c.a, have the library's own
+ * limits, and all memory is lent. `rt staticlib host` and `rt staticlib engine_c` write the archives for x86-64 Linux;
+ * link one or both. Of C they need memcpy, memmove and memset and nothing else: no heap, no file, no global state, so
+ * calls may run at the same time on memory of their own.
  *
- * Words are passed as bytes, four to a word, low byte first; a register is a signed word in two's complement. Where
- * a slice's length is no multiple of four, the bytes behind its last whole word are neither read nor written.
+ * On bytes, words are passed four bytes to a word, low byte first; a register is a signed word in two's complement.
+ * Where a slice's length is no multiple of four, the bytes behind its last whole word are neither read nor written.
  *
- * A call takes some 40 KB of stack, most of it for the table, the code and the workspace inside.
+ * A call on bytes takes some 40 KB of stack, most of it for the table, the code and the workspace inside.
  *
  * Every content of the slices is safe, and every call ends. What is left to the caller is C's own: a pointer is not
  * NULL, also where its length is 0; the bytes that it lends with its length are there; and no slice that a call may
@@ -69,6 +71,49 @@ millkettle_ran millkettle_match(const uint8_t *code, size_t code_len, const uint
 /* The same for the first position from start on at which the pattern matches. */
 millkettle_ran millkettle_search(const uint8_t *code, size_t code_len, const uint8_t *text, size_t text_len, size_t start,
                                  uint8_t *registers, size_t registers_len);
+
+/* ---- on words: lengths are numbers of words, and of bytes for a pattern or a text */
+
+/* Words that are enough for any pattern of so many bytes, for any program, and for any run of so many rows and groups. */
+#define MILLKETTLE_TABLE_WORDS(pattern_len) (32 * ((size_t)(pattern_len) + 1))
+#define MILLKETTLE_CODE_WORDS ((size_t)12300)
+#define MILLKETTLE_WORKSPACE_WORDS(rows, groups) (16 * (size_t)(rows) * ((size_t)(groups) + 2))
+
+/* What a call for every match answers. */
+typedef struct {
+    uint32_t number; /* 0, or the number of the refusal: 20, 21, 22, 24 or 25 */
+    size_t place;    /* 0: a refusal has no other place */
+    size_t matches;  /* how many matches there are; 0 if refused */
+    size_t needed;   /* with 25, how many words the list needs; else 0 */
+    uint64_t count;  /* how many rows all runs executed together; 0 if refused */
+} millkettle_listed;
+
+/* Compiles a pattern of at most 2,048 bytes and 1,024 rows. Not refused, the first 12 * (rows + 1) words of code are the
+ * code, and later words stay; refused, all stay. 1 to 3 leave the table, 4 to 16 set all of it to zero. */
+millkettle_compiled millkettle_compile_words(const uint8_t *pattern, size_t pattern_len, uint32_t *table, size_t table_len,
+                                             uint32_t *code, size_t code_len);
+
+/* The same for the tidied pattern. */
+millkettle_compiled millkettle_compile_tidied_words(const uint8_t *pattern, size_t pattern_len, uint32_t *table,
+                                                    size_t table_len, uint32_t *code, size_t code_len);
+
+/* Matches at position start of the text, or searches from it on. Not refused, the first 2 * (groups + 1) registers are
+ * starts and ends, or all -1 on none, and later ones stay; the first 16 * rows * (groups + 2) words of the workspace may
+ * change, later ones stay. Refused, all stays. */
+millkettle_ran millkettle_match_words(const uint32_t *code, size_t code_len, const uint8_t *text, size_t text_len,
+                                      size_t start, int32_t *registers, size_t registers_len, uint32_t *workspace,
+                                      size_t workspace_len);
+millkettle_ran millkettle_search_words(const uint32_t *code, size_t code_len, const uint8_t *text, size_t text_len,
+                                       size_t start, int32_t *registers, size_t registers_len, uint32_t *workspace,
+                                       size_t workspace_len);
+
+/* Finds every match from start on, in order, as repeated execution with the global flag does: the list then begins with
+ * 2 * (groups + 1) words for each match, and later words stay. 25 refuses a list of fewer words, which stays, and says
+ * how many are needed. A list for text_len - start + 1 matches is never too short, and needs one pass over the text and
+ * not two. The count of all runs, and the time, can grow with the square of the text's length. */
+millkettle_listed millkettle_search_all_words(const uint32_t *code, size_t code_len, const uint8_t *text, size_t text_len,
+                                              size_t start, int32_t *list, size_t list_len, uint32_t *workspace,
+                                              size_t workspace_len);
 
 #ifdef __cplusplus
 }

@@ -1,5 +1,5 @@
-//! Links the proved archive, libhost.a: from the folder that MILLKETTLE_ARCHIVE_DIR names, or else
-//! from where `rt staticlib host` writes it.
+//! Links the proved archives, libhost.a and libengine_c.a: from the folder that
+//! MILLKETTLE_ARCHIVE_DIR names, or else from where `rt staticlib` writes them.
 
 use std::env;
 use std::path::PathBuf;
@@ -11,13 +11,15 @@ fn main() {
         panic!("the archive is x86-64: build with --target x86_64-unknown-linux-gnu");
     }
     let folder = archive_folder();
-    let archive = folder.join("libhost.a");
-    if !archive.is_file() {
-        panic!("no {}: run `rt staticlib host` first", archive.display());
-    }
-    println!("cargo:rerun-if-changed={}", archive.display());
     println!("cargo:rustc-link-search=native={}", folder.display());
-    println!("cargo:rustc-link-lib=static=host");
+    for name in ["host", "engine_c"] {
+        let archive = folder.join(format!("lib{name}.a"));
+        if !archive.is_file() {
+            panic!("no {}: run `rt staticlib {name}` first", archive.display());
+        }
+        println!("cargo:rerun-if-changed={}", archive.display());
+        println!("cargo:rustc-link-lib=static={name}");
+    }
 }
 
 fn archive_folder() -> PathBuf {

@@ -47,7 +47,36 @@ static millkettle_ran run(int searching, const char *text, size_t start, size_t 
     return millkettle_match(code, MILLKETTLE_CODE_BYTES, bytes, length(text), start, registers, registers_len);
 }
 
+static uint32_t table[MILLKETTLE_TABLE_WORDS(2048)];
+static uint32_t words[MILLKETTLE_CODE_WORDS];
+static uint32_t workspace[MILLKETTLE_WORKSPACE_WORDS(1024, 15)];
+
+/* The calls on words: every match of a* in baaac, into lists on both sides of what is needed; and the most rows. */
+static void lent_words(void) {
+    const uint8_t *text = (const uint8_t *)"baaac";
+    int32_t list[9];
+    for (size_t i = 0; i < 9; i++) list[i] = 7;
+    millkettle_compiled c =
+        millkettle_compile_words((const uint8_t *)"a*", 2, table, sizeof table / 4, words, MILLKETTLE_CODE_WORDS);
+    expect(c.number == 0 && c.rows == 13 && words[0] == 13, "a* has 13 rows");
+    millkettle_listed l =
+        millkettle_search_all_words(words, MILLKETTLE_CODE_WORDS, text, 5, 0, list, 7, workspace, sizeof workspace / 4);
+    expect(l.number == 25 && l.needed == 8 && l.count == 0 && list[0] == 7, "seven words are too few for four matches");
+    l = millkettle_search_all_words(words, MILLKETTLE_CODE_WORDS, text, 5, 0, list, 9, workspace, sizeof workspace / 4);
+    expect(l.number == 0 && l.matches == 4 && l.needed == 0 && l.count == 53, "eight are enough: 53 rows");
+    const int32_t spans[9] = {0, 0, 1, 4, 4, 4, 5, 5, 7};
+    for (size_t i = 0; i < 9; i++) expect(list[i] == spans[i], "0,0 1,4 4,4 5,5, and the word behind stays");
+    c = millkettle_compile_tidied_words((const uint8_t *)"a{508}", 6, table, sizeof table / 4, words, MILLKETTLE_CODE_WORDS);
+    expect(c.number == 0 && c.rows == 1024, "a{508} is 1,024 rows");
+    millkettle_ran r =
+        millkettle_search_words(words, MILLKETTLE_CODE_WORDS, text, 5, 0, list, 2, workspace, sizeof workspace / 4);
+    expect(r.number == 0 && r.found == 0 && list[0] == -1 && list[1] == -1, "and not in baaac");
+    r = millkettle_match_words(words, MILLKETTLE_CODE_WORDS, text, 5, 6, list, 2, workspace, sizeof workspace / 4);
+    expect(r.number == 22, "from 6: refusal 22");
+}
+
 int main(void) {
+    lent_words();
     fill(code, sizeof code, 0x55);
     millkettle_compiled c = compile("a|ab");
     expect(c.number == 0 && c.rows == 13 && c.groups == 0 && c.place == 0, "a|ab has 13 rows and no group");

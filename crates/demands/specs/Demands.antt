@@ -1,15 +1,15 @@
 -- The three demands, over the promises of the public calls: `Compiles` of `compile` and `compile_tidied`, `Answered` of
--- `match_at` and `search`, `CompilesBytes` and `RunsBytes` of the host's calls, `intakeOutput` of the intake program. `Finds` of
--- `find` is demand 2 in one definition. That every call ends, and touches only what was lent, is the toolchain's part: a function
--- that may not end, or reaches further, is not proved.
+-- `match_at` and `search`, `Lists` of `search_all`, `CompilesBytes` and `RunsBytes` of the host's calls, `intakeOutput` of the
+-- intake program. `Finds` of `find` is demand 2 in one definition. That every call ends, and touches only what was lent, is the
+-- toolchain's part: a function that may not end, or reaches further, is not proved.
 use mathlib.Core.Path.{_≡_, refl, sym}
 use mathlib.Core.Logic.{_↔_}
 use mathlib.Core.Bool.{Bool}
 use mathlib.Core.Option.{Option}
 use mathlib.Core.List.{List, _∷_, _++_}
-use Prim.Native.Nat.{ℕ, suc, _+_, _*_, _-_, _≤_}
+use Prim.Native.Nat.{ℕ, suc, _+_, _*_, _-_, _≤_, _<_}
 use lib.IntN.{ℤ}
-use lib.ListN.{length, take}
+use lib.ListN.{length, take, drop}
 use Rattle.meaning.specs.All.{All}
 use Rattle.meaning.specs.Text.{Regs}
 use Rattle.meaning.specs.Bytes.{Bytes, textOf}
@@ -17,10 +17,12 @@ use Rattle.meaning.specs.Limits.{codeWords}
 use Rattle.meaning.specs.Grounds.{firstOf}
 use Rattle.meaning.specs.Results.{concatMap}
 use Rattle.meaning.specs.Node.{Node}
+use Rattle.meaning.specs.Refusals as No
 use Rattle.meaning.specs.Standard.{searchFrom}
 use Rattle.machine.specs.Steps.{count, seen, Done}
 use Rattle.machine.specs.Words.{rowsSaid}
 use Rattle.machine.specs.Replies.{valuesOf, lentBy, turnedAway, refusal, runOf, replyTo}
+use Rattle.machine.specs.Repetition.{repetition, executedIn}
 use Rattle.tidying_laws.specs.List.{becomes}
 use Rattle.reading_grammar.specs.Grammar.{Derives}
 use Rattle.compiler.specs.Compiling.{plain, tidied, shaped, Compiles}
@@ -29,6 +31,9 @@ use Rattle.compiler.specs.declared.Compilation.the-variants.{Rows, Refused as U
 use Rattle.engine.specs.Answers.{replyOf, executed, Answered}
 use Rattle.engine.specs.declared.Answer.{Answer}
 use Rattle.engine.specs.declared.Answer.the-variants.{Refused}
+use Rattle.repetition.specs.Listings.{listingValues, lentAll, repetitionRefusal, wordsOf, listGrounds, spansOf, Lists}
+use Rattle.repetition.specs.declared.Listing.{Listing}
+use Rattle.repetition.specs.declared.Listing.the-variants.{Listed, Short, Refused as Unlisted}
 use Rattle.millkettle.specs.Laws.{Way, rowOf, standardBy}
 use Rattle.intake_report.specs.Texts.{headerLine}
 use Rattle.intake_report.specs.Lines.{linesOf}
@@ -41,6 +46,8 @@ use Rattle.demands.specs.Runs.{SomeStandard, compiled-standard, rows-byt
 use Rattle.demands.specs.HostAnswers.{keptGrounds, bytesFrom, host-standard}
 use Rattle.demands.specs.IntakeAnswers.{lineSaying, lineGrounds, intake-standard}
 use Rattle.demands.specs.Tidied.{Neat, neat, outcome, SameSpans, same-answers, SameStandard, laws-standard}
+use Rattle.demands.specs.AllMatches.{first-number, nothing-changed, too-short, all-listed, Bounded, bounded}
+use Rattle.demands.specs.AllMatches.{SomeStandardAll, compiled-all, outcomeAll, SameLists, same-lists}
 
 -- Demand 1, for any bytes as a pattern, and any table and code: the answer is exactly what the grammar and the table of refusals
 -- say, 1 to 14 with their places, 15 and 16 by the rows, and rows otherwise; and what a refusal leaves is by its number.
@@ -80,6 +87,31 @@ demand-1-rows way {code} {text} {start} {registers} {workspace = workspace} a =
 pub demand-1-values : (k : ℕ) → valuesOf (replyOf (Refused k)) ≡ record { number = k; found = 0; place = 0; count = 0 }
 demand-1-values k = refl
 
+-- Demand 1 of `search_all`: the number is the first in order whose condition holds, 20, 21, 22, 24 and 25; 20 to 24 change
+-- nothing; 25 leaves the list, and reports the words that the matches fill; any other list holds every match, and the count is
+-- the sum of the runs';
+pub demand-1-all : {code text : List ℕ} {start : ℕ} {list list′ : List ℤ} {workspace workspace′ : List ℕ} {r : Listing}
+    → Lists code text start list list′ workspace workspace′ r
+    → let number = repetitionRefusal code text start (length workspace) in let all = repetition code text start in
+    (listingValues r .number ≡ firstOf (listGrounds code text start (length list) (length workspace)))
+    × ((k : ℕ) → number ≡ suc k → (r ≡ Unlisted (suc k)) × (list′ ≡ list) × (workspace′ ≡ workspace))
+    × (number ≡ 0 → length list < wordsOf code all → (r ≡ Short (wordsOf code all)) × (list′ ≡ list))
+    × (number ≡ 0 → wordsOf code all ≤ length list → (r ≡ Listed (length all) (executedIn code text start))
+    × (list′ ≡ spansOf all ++ drop (wordsOf code all) list))
+demand-1-all l = (first-number l, nothing-changed l, too-short l, all-listed l)
+
+-- and each single run has ended and keeps within its bound, from starts that rise strictly.
+pub demand-1-all-rows : {code text : List ℕ} {start : ℕ} {list list′ : List ℤ} {workspace workspace′ : List ℕ} {r : Listing}
+    → Lists code text start list list′ workspace workspace′ r
+    → repetitionRefusal code text start (length workspace) ≡ 0 → Bounded code text start
+demand-1-all-rows {code} {text} {start} {workspace = workspace} l e = bounded code text start (length workspace) e
+
+-- A refusal has place 0 and count 0, 25 too.
+pub demand-1-all-values : (k : ℕ)
+    → (listingValues (Unlisted k) ≡ record { number = k; place = 0; count = 0; matches = 0; needed = 0 })
+    × (listingValues (Short k) ≡ record { number = No.shortList; place = 0; count = 0; matches = 0; needed = k })
+demand-1-all-values k = (refl, refl)
+
 -- Demand 2, for any pattern that `compile` or `compile_tidied` answers with rows: it derives by the grammar, and matched at a
 -- start, or searched from it on, its code answers what the standard's algorithm finds for the pattern that was read, or for that
 -- pattern tidied, with every group's span, and none exactly if that finds nothing. It is turned away only by 21 to 24.
@@ -108,6 +140,14 @@ pub demand-2-intake : {input pattern : List ℕ} {lines : List (List ℕ)} {n g 
     ++ concatMap (λ line. lineSaying (firstOf (lineGrounds n g line)) (searchFrom (textOf line) g node 0)) lines)
 demand-2-intake = intake-standard
 
+-- Demand 2 of `search_all`: for what was compiled it gives every match of the standard's repetition, each once.
+pub demand-2-all : (tidying : Bool) {s text : List ℕ} {start : ℕ} {table table′ code code′ : List ℕ} {list list′ : List ℤ}
+    {workspace workspace′ : List ℕ} {n g : ℕ} {answer : Listing} → Bytes text
+    → Compiles tidying s table table′ code code′ (Rows n g)
+    → Lists code′ text start list list′ workspace workspace′ answer
+    → SomeStandardAll tidying s table code′ text start n g list list′ (length workspace) answer
+demand-2-all = compiled-all
+
 -- Demand 3: each law of the list is valid inside any surrounding pattern: whatever a part becomes by the law's words, every text
 -- is matched the same from every start, with every group;
 pub demand-3-laws : All (λ W. (r q : Node) → W r q → SameStandard r q) becomes
@@ -132,3 +172,15 @@ pub demand-3-answers : (way : Way) {s text : List ℕ} {start : ℕ} {table tabl
     → ((m : ℕ) × (compiled ≡ Rows m g) × (m ≤ n)) × (outcome (replyOf r) ≡ outcome (replyOf q))
     × SameSpans g registers registers′ registers₂ registers″
 demand-3-answers = same-answers
+
+-- Demand 3 of `search_all`: the whole list is the same, and so is the number of words needed.
+pub demand-3-all : {s text : List ℕ} {start : ℕ} {table table₂ table′ table″ code code₂ code′ code″ : List ℕ}
+    {list list₂ list′ list″ : List ℤ} {workspace workspace₂ workspace′ workspace″ : List ℕ} {n g : ℕ}
+    {compiled : Compilation} {r q : Listing} → Bytes text → Compiles plain s table table′ code code′ (Rows n g)
+    → length table ≡ length table₂ → length code ≡ length code₂ → Compiles tidied s table₂ table″ code₂ code″ compiled
+    → firstOf (lentAll n g text start (length workspace)) ≡ 0
+    → Lists code′ text start list list′ workspace workspace′ r
+    → length list ≡ length list₂ → length workspace ≡ length workspace₂
+    → Lists code″ text start list₂ list″ workspace₂ workspace″ q
+    → ((m : ℕ) × (compiled ≡ Rows m g) × (m ≤ n)) × (outcomeAll r ≡ outcomeAll q) × SameLists g list list′ list₂ list″
+demand-3-all = same-lists

@@ -1,6 +1,7 @@
 pub mod Patterns
 pub mod Runs
 pub mod Tidied
+pub mod AllMatches
 pub mod Demands
 pub mod Pinned
 pub mod Impossible

@@ -10,6 +10,8 @@ use Rattle.compiler.specs.Compiling.{Compiles}
 use Rattle.compiler.specs.declared.Compilation.{Compilation}
 use Rattle.engine.specs.Answers.{Answered}
 use Rattle.engine.specs.declared.Answer.{Answer}
+use Rattle.repetition.specs.Listings.{listing, listAfter, Lists}
+use Rattle.repetition.specs.declared.Listing.{Listing}
 use Rattle.millkettle.specs.Finding.{finding, spansLeft, Finds}
 use Rattle.millkettle.specs.declared.Finding.{Finding}
 use Rattle.host.specs.Surface.{CompilesBytes, RunsBytes}
@@ -34,6 +36,15 @@ pub one-run : {code text : List ℕ} {start row : ℕ} {before after after′ : 
 one-run {code} {text} {start} {row} {before} {r = r} {q = q} e a b = (
   one-answer r q (a .replies ∙ ap (λ n. reply code (lend text start (length before) n) row) e ∙ sym (b .replies)),
   a .spans ∙ ap (λ n. registersAfter code (lend text start (length before) n) row before) e ∙ sym (b .spans),
+)
+
+-- Two of `search_all`: answer and list, whatever their workspaces of one length held.
+pub one-listing : {code text : List ℕ} {start : ℕ} {before after after′ : List ℤ} {work work′ left left′ : List ℕ}
+    {r q : Listing} → length work ≡ length work′ → Lists code text start before after work left r
+    → Lists code text start before after′ work′ left′ q → (r ≡ q) × (after ≡ after′)
+one-listing {code} {text} {start} {before} e a b = (
+  a .answers ∙ ap (listing code text start (length before)) e ∙ sym (b .answers),
+  a .list-is ∙ ap (listAfter code text start before) e ∙ sym (b .list-is),
 )
 
 -- Two of `find`: answer, table, code and registers, whatever their workspaces of one length held.

@@ -1,6 +1,6 @@
 -- Demand 3, over the promises of the public calls: the tidied pattern answers as the plain one, has no more rows, and no law
 -- still applies to it.
-use mathlib.Core.Path.{_≡_, refl, sym, ap, ap₂, _∙_}
+use mathlib.Core.Path.{_≡_, refl, sym, ap, ap₂, subst, _∙_}
 use mathlib.Core.Bool.{Bool}
 use mathlib.Core.Option.{Option, none, some}
 use mathlib.Core.List.{List, [], _∷_, _++_}
@@ -94,7 +94,7 @@ enough n m g lent h z =
     rw (le-ltb (lent .workspace) (workspaceWords m g) (omega arith)) (rw was at z)
 
 -- The standard's algorithm finds the same on the tidied pattern.
-same-standard : (way : Way) (text : List ℕ) → Bytes text → (r : Node) (n g start : ℕ) → Numbers 1 r n → start ≤ length text
+pub same-standard : (way : Way) (text : List ℕ) → Bytes text → (r : Node) (n g start : ℕ) → Numbers 1 r n → start ≤ length text
     → standardBy way text g r start ≡ standardBy way text g (tidy r) start
 same-standard matching text bytes r n g start h l = tidy-match r n h (textOf text) (fair bytes asserts) g start l
 same-standard searching text bytes r n g start h l = tidy-search r n h (textOf text) (fair bytes asserts) g start l
@@ -113,6 +113,39 @@ outcome-of (some ρ) n m = refl
 same-lengths : (tidying : Bool) (s table table₂ code code₂ : List ℕ) → length table ≡ length table₂
     → length code ≡ length code₂ → compilation tidying s table code ≡ compilation tidying s table₂ code₂
 same-lengths tidying s table table₂ code code₂ e f = ap₂ (λ m n. answerBy tidying (reading s m) n) e f
+
+-- Code of one pattern, plain and tidied, of no more rows.
+pub record Twins (code′ code″ : List ℕ) (n m g : ℕ) (r : Node) : Type 0 where
+  pub as-read : Coded code′ n g r
+  pub as-tidied : Coded code″ m g (tidy r)
+  pub fewer : m ≤ n
+
+-- What both compilers leave for one pattern, each with buffers of its own, of equal lengths, whatever they hold.
+pub twins : {s table table₂ table′ table″ code code₂ code′ code″ : List ℕ} {n g : ℕ} {compiled : Compilation}
+    → Compiles plain s table table′ code code′ (Rows n g) → length table ≡ length table₂ → length code ≡ length code₂
+    → Compiles tidied s table₂ table″ code₂ code″ compiled
+    → (m : ℕ) × (r : Node) × (compiled ≡ Rows m g) × Twins code′ code″ n m g r
+twins {s} {table} {table₂} {code = code} {code₂ = code₂} {code″ = code″} {n = n} {g = g} h et ec k =
+    let bs : Bytes s = rows-bytes h in
+    let here : compilation plain s table₂ code₂ ≡ Rows n g
+    = sym (same-lengths plain s table table₂ code code₂ et ec) ∙ sym (h .answers) in
+    let o : Compiled plain s table code n g = compiled plain s table code n g bs (sym (h .answers)) in
+    let p : Compiled plain s table₂ code₂ n g = compiled plain s table₂ code₂ n g bs here in
+    let (m, e, fewer) = also-tidied s table₂ code₂ n g bs p in
+    let t : Neat s table₂ code₂ m g = neat s table₂ code₂ m g bs e in
+    let one : o .node ≡ t .node = same-node (sym (o .is-read) ∙ ap (reading s) et ∙ t .is-read) in (
+      m,
+      o .node,
+      k .answers ∙ e,
+      record {
+        as-read = coded-as (h .code-is) (o .is-coded);
+        as-tidied = subst (λ (r : Node). Coded code″ m g (tidy r)) (sym one) (coded-as (k .code-is) (t .is-coded));
+        fewer = fewer;
+      },
+    )
+  where
+    same-node : {x y : Node} {i j : ℕ} → pattern x i ≡ pattern y j → x ≡ y
+    same-node e = cc
 
 -- What two calls of a run leave in registers of their own: the spans of one result, before what stood behind them.
 pub record SameSpans (g : ℕ) (registers registers′ registers₂ registers″ : List ℤ) : Type 0 where
@@ -133,37 +166,25 @@ pub same-answers : (way : Way) {s text : List ℕ} {start : ℕ} {table table₂
     → Answered code″ text start (rowOf way) registers₂ workspace₂ q registers″ workspace″
     → ((m : ℕ) × (compiled ≡ Rows m g) × (m ≤ n)) × (outcome (replyOf r) ≡ outcome (replyOf q))
     × SameSpans g registers registers′ registers₂ registers″
-same-answers way {s} {text} {start} {table} {table₂ = table₂} {code = code} {code₂ = code₂} {registers = registers}
-    {registers₂ = registers₂} {workspace = workspace} {workspace₂ = workspace₂} {n = n} {g = g} {r = r} {q = q}
-    bt h et ec k room a er ew b =
-    let bs : Bytes s = rows-bytes h in
+same-answers way {text = text} {start = start} {registers = registers} {registers₂ = registers₂} {workspace = workspace}
+    {workspace₂ = workspace₂} {n = n} {g = g} {r = r} {q = q} bt h et ec k room a er ew b =
     let lent : Lent = lentBy text start registers₂ workspace₂ in
     let again : turnedAway n g lent ≡ 0 = sym (ap₂ (λ x y. turnedAway n g (lend text start x y)) er ew) ∙ room in
-    let here : compilation plain s table₂ code₂ ≡ Rows n g
-    = sym (same-lengths plain s table table₂ code code₂ et ec) ∙ sym (h .answers) in
-    let o : Compiled plain s table code n g = compiled plain s table code n g bs (sym (h .answers)) in
-    let p : Compiled plain s table₂ code₂ n g = compiled plain s table₂ code₂ n g bs here in
-    let (m, e, fewer) = also-tidied s table₂ code₂ n g bs p in
-    let t : Neat s table₂ code₂ m g = neat s table₂ code₂ m g bs e in
-    let one : o .node ≡ t .node = same-node (sym (o .is-read) ∙ ap (reading s) et ∙ t .is-read) in
-    let u = answers-standard way {n = n} {g = g} {r = o .node} bt (coded-as (h .code-is) (o .is-coded)) a in
-    let v = answers-standard way {n = m} {g = g} {r = tidy (t .node)} bt (coded-as (k .code-is) (t .is-coded)) b in
-    let small : turnedAway m g lent ≡ 0 = enough n m g lent fewer again in
-    let std : standardBy way text g (o .node) start ≡ standardBy way text g (tidy (t .node)) start
-    = same-standard way text bt (o .node) (suc g) g start (o .is-coded .numbers) (within n g lent again)
-    ∙ ap (λ x. standardBy way text g (tidy x) start) one in (
-      (m, k .answers ∙ e, fewer),
-      ap outcome (u .answers room) ∙ outcome-of (standardBy way text g (o .node) start) (executed r) (executed q)
+    let (m, o, e, t) = twins h et ec k in
+    let u = answers-standard way {n = n} {g = g} {r = o} bt (t .as-read) a in
+    let v = answers-standard way {n = m} {g = g} {r = tidy o} bt (t .as-tidied) b in
+    let small : turnedAway m g lent ≡ 0 = enough n m g lent (t .fewer) again in
+    let std : standardBy way text g o start ≡ standardBy way text g (tidy o) start
+    = same-standard way text bt o (suc g) g start (t .as-read .numbers) (within n g lent again) in (
+      (m, e, t .fewer),
+      ap outcome (u .answers room) ∙ outcome-of (standardBy way text g o start) (executed r) (executed q)
           ∙ ap (λ o. outcome (answerOf o (executed q))) std ∙ sym (ap outcome (v .answers small)),
       record {
-        result = standardBy way text g (tidy (t .node)) start;
+        result = standardBy way text g (tidy o) start;
         first = u .spans-are room ∙ ap (λ o. spans g o ++ drop (registersOf g) registers) std;
         second = v .spans-are small;
       },
     )
-  where
-    same-node : {x y : Node} {i j : ℕ} → pattern x i ≡ pattern y j → x ≡ y
-    same-node e = cc
 
 -- A law makes no difference: wherever a part stands, and whatever it becomes by the law's words, the standard's algorithm
 -- matches and finds the same in any text, with every group.

@@ -86,7 +86,8 @@ shown-more s from i before now v h l e ev =
     ∙ ap (λ (xs : List ℤ). xs ++ drop (i + 1) before) (map-snoc (wordsAt s from i) (getD s (from + i) 0))
     ∙ snoc-append (map shownWord (wordsAt s from i)) (shownWord (getD s (from + i) 0)) (drop (i + 1) before))
 
-map-both : (rs : List ℕ) → map shown (map regOf rs) ≡ map shownWord rs
+-- the numbers that words show are those of their registers
+pub map-both : (rs : List ℕ) → map shown (map regOf rs) ≡ map shownWord rs
 map-both [] = refl
 map-both (v ∷ rs) = ap (λ (xs : List ℤ). shownWord v ∷ xs) (map-both rs)
 

@@ -29,7 +29,13 @@ pub enum Answer {
 }
 
 // The number by which a run is turned away, the first in order that holds; 0 if it is not.
-fn turned_away(code: &[u32], text: &[u8], start: usize, registers: usize, workspace: usize) -> u32
+pub fn turned_away(
+    code: &[u32],
+    text: &[u8],
+    start: usize,
+    registers: usize,
+    workspace: usize,
+) -> u32
     ensures { λ r. ⌜ r ≡ refusal (now (code .entry)) (lend (now (text .entry)) start registers workspace) ⌝ }
 {
     if !code_check::check(code) {
@@ -63,7 +69,7 @@ fn show(v: u32) -> i32
 }
 
 // The first registers show the words at `from`. Later registers stay.
-fn copy_out(registers: &mut [i32], work: &[u32], from: usize, width: usize)
+pub fn copy_out(registers: &mut [i32], work: &[u32], from: usize, width: usize)
     requires { ⌜ (from + width ≤ length (now work)) × (width ≤ length (now registers)) ⌝ }
     ensures { λ _. ⌜ now (registers .exit)
         ≡ map shownWord (wordsAt (now (work .entry)) from width) ++ drop width (now (registers .entry)) ⌝ }

@@ -1,22 +1,57 @@
--- What a call from outside promises: the engine's answer, as a number and a count.
+-- What the calls on lent words promise: the numbers of the answer, and what every lent buffer holds. Definitions only.
 use mathlib.Core.Path.{_≡_}
+use mathlib.Core.Bool.{Bool}
 use mathlib.Core.List.{List}
-use Prim.Native.Nat.{ℕ}
+use Prim.Native.Nat.{ℕ, _≤_}
 use lib.IntN.{ℤ}
-use Rattle.engine.specs.Answers.{executed, Answered}
-use Rattle.engine.specs.declared.Answer.{Answer}
-use Rattle.engine.specs.declared.Answer.the-variants.{Found, Missing, Refused}
+use lib.ListN.{length, getD}
+use Rattle.meaning.specs.Limits.{workspaceWords}
+use Rattle.machine.specs.Words.{rowsSaid, groupsSaid}
+use Rattle.machine.specs.Replies.{Reply.refused, lentBy, reply, registersAfter}
+use Rattle.millkettle.specs.Calls.Compiling.{compilation, tableAt, codeAt}
+use Rattle.millkettle.specs.Calls.Listings.{listingValues, listing, listAfter}
+use Rattle.millkettle.specs.Calls.{Listing}
+use Rattle.millkettle.specs.Calls.Listing.{Refused}
+use Rattle.host.specs.Surface.{compiledNumbers, ranNumbers}
+use Rattle.host.specs.declared.Compiled.{Compiled}
+use Rattle.host.specs.declared.Ran.{Ran}
+use Rattle.engine_c.specs.declared.Listed.{Listed}
 
--- The number for each case: 1 for found, 0 for none, and a refusal's own, 20 to 24.
-abbrev pub numberOf : Answer → ℕ
-numberOf (Found rows) = 1
-numberOf (Missing rows) = 0
-numberOf (Refused number) = number
+-- The numbers passed for what a call for every match answers: the outline's values.
+abbrev pub listedNumbers : Listing → Listed
+listedNumbers r = record {
+  number = listingValues r .number;
+  place = listingValues r .place;
+  matches = listingValues r .matches;
+  needed = listingValues r .needed;
+  count = listingValues r .count;
+}
 
--- The number and the count are those of an answer that the engine promises for the same call.
-pub record Called (code text : List ℕ) (start row : ℕ) (registers : List ℤ) (workspace : List ℕ) (number rows : ℕ)
-    (registers′ : List ℤ) (workspace′ : List ℕ) : Type 0 where
-  pub answer : Answer
-  pub answered : Answered code text start row registers workspace answer registers′ workspace′
-  pub numbered : number ≡ numberOf answer
-  pub counted : rows ≡ executed answer
+-- The promise of compiling: the numbers of the answer, the table and the code.
+pub record CompilesWords (tidying : Bool) (s table table′ code code′ : List ℕ) (r : Compiled) : Type 0 where
+  pub answers : r ≡ compiledNumbers (compilation tidying s table code)
+  pub table-is : table′ ≡ tableAt tidying s table code
+  pub code-is : code′ ≡ codeAt tidying s table code
+
+-- The workspace after a call: words behind those that a run needs stay.
+pub record Stays (code workspace workspace′ : List ℕ) : Type 0 where
+  pub long : length workspace′ ≡ length workspace
+  pub later : (i : ℕ) → workspaceWords (rowsSaid code) (groupsSaid code) ≤ i → getD workspace′ i 0 ≡ getD workspace i 0
+
+-- The promise of a run that begins at a row: the numbers of the reply, and the registers; all of the workspace stays if it is
+-- turned away.
+pub record RunsWords (row : ℕ) (code text : List ℕ) (start : ℕ) (registers registers′ : List ℤ) (workspace workspace′ : List ℕ)
+    (r : Ran) : Type 0 where
+  pub replies : r ≡ ranNumbers (reply code (lentBy text start registers workspace) row)
+  pub spans : registers′ ≡ registersAfter code (lentBy text start registers workspace) row registers
+  pub stays : Stays code workspace workspace′
+  pub untouched : (number : ℕ) → reply code (lentBy text start registers workspace) row ≡ refused number → workspace′ ≡ workspace
+
+-- The promise of a call for every match: the numbers of the answer, and the list; all of the workspace stays on 20 to 24.
+pub record ListsWords (code text : List ℕ) (start : ℕ) (list list′ : List ℤ) (workspace workspace′ : List ℕ) (r : Listed)
+    : Type 0 where
+  pub answers : r ≡ listedNumbers (listing code text start (length list) (length workspace))
+  pub list-is : list′ ≡ listAfter code text start list (length workspace)
+  pub stays : Stays code workspace workspace′
+  pub untouched : (number : ℕ) → listing code text start (length list) (length workspace) ≡ Refused number
+      → workspace′ ≡ workspace

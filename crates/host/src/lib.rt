@@ -37,7 +37,7 @@ pub struct Ran {
 }
 
 // The numbers passed for each case of the answer.
-fn compiled_numbers(answer: Compilation) -> Compiled
+pub fn compiled_numbers(answer: Compilation) -> Compiled
     ensures { λ r. ⌜ r ≡ compiledNumbers answer ⌝ }
 {
     match answer {
@@ -57,7 +57,7 @@ fn compiled_numbers(answer: Compilation) -> Compiled
 }
 
 // The numbers passed for each case of the answer.
-fn ran_numbers(answer: Answer) -> Ran
+pub fn ran_numbers(answer: Answer) -> Ran
     ensures { λ r. ⌜ r ≡ ranNumbers (replyOf answer) ⌝ }
 {
     match answer {

@@ -6,6 +6,7 @@ use libc::STDOUT_FILENO;
 use millkettle::Answer;
 use millkettle::Compilation;
 use millkettle::Finding;
+use millkettle::Listing;
 
 pub fn say(bytes: &[u8]) {
     io::write_all(STDOUT_FILENO, bytes);
@@ -107,4 +108,36 @@ pub fn found(pattern: &[u8], text: &[u8], start: usize) {
         }
     }
     say_registers(&registers);
+}
+
+// What a call for every match answers, and then eight words of the list, which all held 7 before.
+pub fn say_listing(listing: Listing, list: &[i32; 8]) {
+    match listing {
+        Listing::Listed { matches, count } => {
+            say_number(b": matches ", matches as u64);
+            say_number(b", rows ", count);
+        }
+        Listing::Short { needed } => say_number(b": refused 25, needed ", needed as u64),
+        Listing::Refused(number) => say_number(b": refused ", number as u64),
+    }
+    let mut line = [0u8; 100];
+    let end = intake_report::put_spans(&mut line, 0, list, 8);
+    say(b": ");
+    say(&line[0..end]);
+}
+
+// Every match of code in a text from a start on, into so many words of a list, at most eight.
+pub fn list(code: &[u32], text: &[u8], start: usize, words: usize) {
+    let mut list = [7i32; 8];
+    let mut workspace = [5u32; 1600];
+    if words <= 8 {
+        let listing = millkettle::search_all(
+            code,
+            text,
+            start,
+            &mut list[0..words],
+            &mut workspace,
+        );
+        say_listing(listing, &list);
+    }
 }

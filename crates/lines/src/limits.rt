@@ -3,6 +3,7 @@ use crate::answers::code_of;
 use crate::answers::run;
 use crate::answers::say;
 use crate::answers::say_answer;
+use crate::answers::say_listing;
 use crate::answers::say_number;
 use crate::answers::say_run;
 
@@ -43,6 +44,29 @@ fn lend(code: &[u32], text: &[u8], start: usize, registers: usize, workspace: us
     }
 }
 
+// The same call for every match, with so many words of a list, at most 8.
+fn lend_all(code: &[u32], text: &[u8], start: usize, words: usize, workspace: usize) {
+    say_number(b"all of a in code ", code.len() as u64);
+    say_number(b" text ", text.len() as u64);
+    say_number(b" from ", start as u64);
+    say_number(b" list ", words as u64);
+    say_number(b" workspace ", workspace as u64);
+    let mut list = [7i32; 8];
+    let mut work = [5u32; 288];
+    if words <= 8 {
+        if workspace <= 288 {
+            let listing = millkettle::search_all(
+                code,
+                text,
+                start,
+                &mut list[0..words],
+                &mut work[0..workspace],
+            );
+            say_listing(listing, &list);
+        }
+    }
+}
+
 // All that turns a run away but a long text, and then one thing less in each line: the refusals in order, with both sides of
 // each limit.
 pub fn in_order() {
@@ -71,4 +95,16 @@ pub fn groups() {
     let end = intake_report::put_spans(&mut line, 0, &registers, 64);
     say(b": ");
     say(&line[0..end]);
+}
+
+pub fn all_in_order() {
+    let code = code_of(b"a");
+    let words = &code[..];
+    let enough = &words[0..120];
+    let text = b"a";
+    lend_all(&words[0..119], text, 2, 1, 287);
+    lend_all(enough, text, 2, 1, 287);
+    lend_all(enough, text, 0, 1, 287);
+    lend_all(enough, text, 0, 1, 288);
+    lend_all(enough, text, 0, 2, 288);
 }

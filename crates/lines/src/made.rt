@@ -2,6 +2,7 @@
 // those that are given, as ` 5 Jump    5 0;`: row, kind and two operands.
 ghost use Prim.Native.Nat.{_+_, _≤_};
 ghost use lib.ListN.{length};
+use crate::answers;
 use crate::answers::run;
 use crate::questions::byte_at;
 use crate::questions::digit_at;
@@ -90,4 +91,15 @@ pub fn ask(rows: &[u8], text: &[u8], unused: u32) {
     let mut code = accepts(unused);
     read_rows(&mut code, rows);
     answer(&code, text);
+}
+
+fn every(code: &[u32; 120], text: &[u8]) {
+    answers::list(code, text, 0, 8);
+}
+
+// Every match of the code of some rows.
+pub fn list(rows: &[u8], text: &[u8]) {
+    let mut code = accepts(0);
+    read_rows(&mut code, rows);
+    every(&code, text);
 }

@@ -14,4 +14,5 @@ fn main() {
     limits::far();
     limits::in_order();
     limits::groups();
+    limits::all_in_order();
 }

@@ -1,5 +1,6 @@
-// The questions: `match 0 PATTERN`, `search 0 PATTERN` and `find 0 PATTERN` with the start, `compile PATTERN` and
-// `tidied PATTERN`, and `rows` with rows by hand, or `unused` with a 1 in each word that they do not use.
+// The questions: `match 0 PATTERN`, `search 0 PATTERN` and `find 0 PATTERN` with the start, `all 0 8 PATTERN` with the start and
+// the words of the list, `compile PATTERN` and `tidied PATTERN`, and `rows` with rows by hand, `every` with rows of which every
+// match is asked for, or `unused` with a 1 in each word that they do not use.
 ghost use mathlib.Core.Path.{_≡_};
 ghost use Prim.Native.Nat.{_-_, _<_, _≤_};
 ghost use lib.ListN.{length, getD};
@@ -60,6 +61,13 @@ fn find(pattern: &[u8], text: &[u8], start: usize) {
     found(pattern, text, start);
 }
 
+// Every match of a pattern, into so many words.
+fn all(pattern: &[u8], text: &[u8], start: usize, words: usize) {
+    on(text);
+    let code = code_of(pattern);
+    answers::list(&code, text, start, words);
+}
+
 // One question, by its first letter.
 fn ask(question: &[u8], text: &[u8]) {
     say(question);
@@ -77,6 +85,16 @@ fn ask(question: &[u8], text: &[u8]) {
             digit_at(question, 7) as usize,
         ),
         b'f' => find(rest(question, 7), text, digit_at(question, 5) as usize),
+        b'a' => all(
+            rest(question, 8),
+            text,
+            digit_at(question, 4) as usize,
+            digit_at(question, 6) as usize,
+        ),
+        b'e' => {
+            on(text);
+            made::list(rest(question, 5), text)
+        }
         b'c' => compiled(rest(question, 8)),
         b't' => tidied(rest(question, 7)),
         b'u' => {

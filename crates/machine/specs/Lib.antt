@@ -16,4 +16,8 @@ pub mod Checked
 pub mod Replies
 pub mod Allowed
 pub mod Width
+pub mod Repetition
+pub mod Repeated
+pub mod Once
 pub mod Examples
+mod Repetitions

@@ -75,3 +75,7 @@ fewRegisters = 23
 
 abbrev pub smallWorkspace : ℕ
 smallWorkspace = 24
+
+-- A list too short for the matches of a repetition.
+abbrev pub shortList : ℕ
+shortList = 25

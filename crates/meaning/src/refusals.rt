@@ -52,3 +52,6 @@ pub const START_BEYOND: u32 = 22;
 pub const FEW_REGISTERS: u32 = 23;
 
 pub const SMALL_WORKSPACE: u32 = 24;
+
+// A list too short for the matches of a repetition.
+pub const SHORT_LIST: u32 = 25;

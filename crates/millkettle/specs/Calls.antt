@@ -5,3 +5,6 @@ pub use Rattle.compiler.specs.declared.Compilation.the-variants as Compilation
 pub use Rattle.engine.specs.Answers
 pub use Rattle.engine.specs.declared.Answer.{Answer}
 pub use Rattle.engine.specs.declared.Answer.the-variants as Answer
+pub use Rattle.repetition.specs.Listings
+pub use Rattle.repetition.specs.declared.Listing.{Listing}
+pub use Rattle.repetition.specs.declared.Listing.the-variants as Listing

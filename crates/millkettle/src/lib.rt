@@ -4,9 +4,11 @@ ghost use mathlib.Core.Path.{_≡_};
 ghost use Rattle.machine.specs.Steps.{searchRow, matchRow};
 ghost use Rattle.compiler.specs.Compiling.{plain, tidied, Compiles};
 ghost use Rattle.engine.specs.Answers.{Answered};
+ghost use Rattle.repetition.specs.Listings.{Lists};
 ghost use Rattle.millkettle.specs.Finding.{findingOf, Finds};
 pub use compiler::Compilation;
 pub use engine::Answer;
+pub use repetition::Listing;
 
 // What `find` answers: found or none with the count of rows executed, or the number and the place of a refusal.
 pub enum Finding {
@@ -61,6 +63,22 @@ pub fn search(
         (now (workspace .entry)) r (now (registers .exit)) (now (workspace .exit)) ⌝ }
 {
     engine::search(code, text, start, registers, workspace)
+}
+
+// Every match of code from a start on, in order, as repeated execution with the global flag finds them: their spans go into the
+// list, one match behind the other. Answers how many there are, with the counts of all runs in one sum; or how many words are
+// needed, if the list has fewer, which then stays as it was; or refuses by 20, 21, 22 or 24 and changes nothing.
+pub fn search_all(
+    code: &[u32],
+    text: &[u8],
+    start: usize,
+    list: &mut [i32],
+    workspace: &mut [u32],
+) -> Listing
+    ensures { λ r. ⌜ Lists (now (code .entry)) (now (text .entry)) start (now (list .entry)) (now (list .exit))
+        (now (workspace .entry)) (now (workspace .exit)) r ⌝ }
+{
+    repetition::search_all(code, text, start, list, workspace)
 }
 
 // A run's answer as an answer of `find`: a refused run is at place 0.

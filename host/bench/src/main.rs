@@ -70,6 +70,24 @@ fn measured(question: &Question, lines: &[Vec<u8>], bytes: usize) -> f64 {
     ratio
 }
 
+/// Every match where each looks to the text's end: the sum of the counts grows with the square.
+fn worst_case() {
+    let pattern = b"a(?:.*b)?";
+    let program = reference::compile::compile(pattern, 32 * (pattern.len() + 1), 12 * 1025);
+    let code = program.expect("the pattern compiles").words();
+    println!("every match of a(?:.*b)? in a text of a");
+    println!("| bytes | matches | executed | milliseconds |");
+    println!("|---|---|---|---|");
+    for length in [80, 1_000, 4_000, 16_000] {
+        let text = vec![b'a'; length];
+        let (mut list, mut workspace) = (vec![0; 2 * (length + 1)], vec![5; words_needed(&code)]);
+        let start = clock::nanoseconds();
+        let (matches, count) = proved::all(&code, &text, &mut list, &mut workspace);
+        let took = (clock::nanoseconds() - start) as f64 / 1e6;
+        println!("| {length} | {matches} | {count} | {took:.1} |");
+    }
+}
+
 fn main() {
     if std::env::args().nth(1).as_deref() == Some("long") {
         return long::counted();
@@ -84,4 +102,5 @@ fn main() {
     let ratios = QUESTIONS.iter().map(|question| measured(question, &lines, bytes).ln());
     let mean = (ratios.sum::<f64>() / QUESTIONS.len() as f64).exp();
     println!("geometric mean of the ratios: {:.2}", mean);
+    worst_case();
 }

@@ -2,10 +2,29 @@
 
 use crate::call::{Answer, Call};
 
+/// What a run answers.
+#[repr(C)]
+struct Ran {
+    number: u32,
+    found: u32,
+    place: usize,
+    count: u64,
+}
+
+/// What a call for every match answers.
+#[repr(C)]
+struct Listed {
+    number: u32,
+    place: usize,
+    matches: usize,
+    needed: usize,
+    count: u64,
+}
+
 // A slice is a pointer and a length.
 #[link(name = "engine_c", kind = "static")]
 extern "C" {
-    fn engine_match(
+    fn millkettle_match_words(
         code: *const u32,
         code_words: usize,
         text: *const u8,
@@ -15,9 +34,8 @@ extern "C" {
         register_count: usize,
         workspace: *mut u32,
         workspace_words: usize,
-        rows: *mut u64,
-    ) -> u32;
-    fn engine_search(
+    ) -> Ran;
+    fn millkettle_search_words(
         code: *const u32,
         code_words: usize,
         text: *const u8,
@@ -27,16 +45,25 @@ extern "C" {
         register_count: usize,
         workspace: *mut u32,
         workspace_words: usize,
-        rows: *mut u64,
-    ) -> u32;
+    ) -> Ran;
+    fn millkettle_search_all_words(
+        code: *const u32,
+        code_words: usize,
+        text: *const u8,
+        text_bytes: usize,
+        start: usize,
+        list: *mut i32,
+        list_words: usize,
+        workspace: *mut u32,
+        workspace_words: usize,
+    ) -> Listed;
 }
 
 /// A call of the engine.
 pub fn run(call: &Call, registers: &mut [i32], workspace: &mut [u32]) -> Answer {
-    let engine = if call.row == 0 { engine_search } else { engine_match };
-    let mut rows = 0;
+    let engine = if call.row == 0 { millkettle_search_words } else { millkettle_match_words };
     // SAFETY: each pointer and length are of one slice, and no two slices that may change overlap.
-    let number = unsafe {
+    let ran = unsafe {
         engine(
             call.code.as_ptr(),
             call.code.len(),
@@ -47,8 +74,29 @@ pub fn run(call: &Call, registers: &mut [i32], workspace: &mut [u32]) -> Answer 
             registers.len(),
             workspace.as_mut_ptr(),
             workspace.len(),
-            &mut rows,
         )
     };
-    Answer { number, rows }
+    debug_assert_eq!(ran.place, 0);
+    // 1 for found, 0 for none, and a refusal's own number.
+    Answer { number: if ran.number == 0 { ran.found } else { ran.number }, rows: ran.count }
+}
+
+/// Every match of code in a text: how many, and the rows executed.
+pub fn all(code: &[u32], text: &[u8], list: &mut [i32], workspace: &mut [u32]) -> (usize, u64) {
+    // SAFETY: each pointer and length are of one slice, and no two slices that may change overlap.
+    let listed = unsafe {
+        millkettle_search_all_words(
+            code.as_ptr(),
+            code.len(),
+            text.as_ptr(),
+            text.len(),
+            0,
+            list.as_mut_ptr(),
+            list.len(),
+            workspace.as_mut_ptr(),
+            workspace.len(),
+        )
+    };
+    assert_eq!((listed.number, listed.place, listed.needed), (0, 0, 0), "every match is listed");
+    (listed.matches, listed.count)
 }

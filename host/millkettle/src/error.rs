@@ -4,7 +4,7 @@ use std::error::Error;
 use std::fmt::{self, Display, Formatter};
 
 /// The meaning of each refusal.
-const MEANINGS: [(u32, &str); 21] = [
+const MEANINGS: [(u32, &str); 22] = [
     (1, "the pattern is over 2,048 bytes"),
     (2, "the table is under 32(p+1) words: it has room for a pattern of 128 bytes"),
     (3, "a byte above 7F"),
@@ -26,6 +26,7 @@ const MEANINGS: [(u32, &str); 21] = [
     (22, "the start is beyond the text's length"),
     (23, "fewer than 2(g+1) registers"),
     (24, "the workspace is under 16·n·(g+2) words: it has 8,000"),
+    (25, "the list is shorter than the number of matches times 2(g+1)"),
 ];
 
 fn meaning(number: u32) -> &'static str {
@@ -175,6 +176,6 @@ mod tests {
     #[test]
     fn every_number_has_a_meaning() {
         let listed: Vec<u32> = (0..=30).filter(|&n| meaning(n) != meaning(0)).collect();
-        assert_eq!(listed, (1..=16).chain(20..=24).collect::<Vec<_>>());
+        assert_eq!(listed, (1..=16).chain(20..=25).collect::<Vec<_>>());
     }
 }

@@ -32,6 +32,22 @@ pub struct Ran {
     pub count: u64,
 }
 
+/// What a call for every match answers: 0, matches and count; or a refusal's number.
+#[repr(C)]
+#[derive(Clone, Copy, Debug, PartialEq, Eq)]
+pub struct Listed {
+    /// 0, or the refusal's number: 20, 21, 22, 24 or 25.
+    pub number: u32,
+    /// Always 0: "place 0".
+    pub place: usize,
+    /// How many matches there are; 0 if refused.
+    pub matches: usize,
+    /// With 25, how many words the list needs; else 0.
+    pub needed: usize,
+    /// The rows that all runs executed; 0 if refused.
+    pub count: u64,
+}
+
 type Compile = unsafe extern "C" fn(*const u8, usize, *mut u8, usize) -> Compiled;
 type Run = unsafe extern "C" fn(*const u8, usize, *const u8, usize, usize, *mut u8, usize) -> Ran;
 
@@ -102,4 +118,161 @@ pub fn match_at(code: &[u8], text: &[u8], start: usize, registers: &mut [u8]) ->
 /// Runs code on a text, searching from the start on.
 pub fn search(code: &[u8], text: &[u8], start: usize, registers: &mut [u8]) -> Ran {
     run_by(millkettle_search, code, text, start, registers)
+}
+
+/// The calls on lent words, from the archive `libengine_c.a`.
+pub mod words {
+    use super::{Compiled, Listed, Ran};
+
+    type Compile =
+        unsafe extern "C" fn(*const u8, usize, *mut u32, usize, *mut u32, usize) -> Compiled;
+    /// Code, text, start, registers or a list, workspace.
+    type Run<R> = unsafe extern "C" fn(
+        *const u32,
+        usize,
+        *const u8,
+        usize,
+        usize,
+        *mut i32,
+        usize,
+        *mut u32,
+        usize,
+    ) -> R;
+
+    extern "C" {
+        fn millkettle_compile_words(
+            pattern: *const u8,
+            pattern_bytes: usize,
+            table: *mut u32,
+            table_words: usize,
+            code: *mut u32,
+            code_words: usize,
+        ) -> Compiled;
+
+        #[cfg(feature = "tidied")]
+        fn millkettle_compile_tidied_words(
+            pattern: *const u8,
+            pattern_bytes: usize,
+            table: *mut u32,
+            table_words: usize,
+            code: *mut u32,
+            code_words: usize,
+        ) -> Compiled;
+
+        fn millkettle_match_words(
+            code: *const u32,
+            code_words: usize,
+            text: *const u8,
+            text_bytes: usize,
+            start: usize,
+            registers: *mut i32,
+            register_count: usize,
+            workspace: *mut u32,
+            workspace_words: usize,
+        ) -> Ran;
+
+        fn millkettle_search_words(
+            code: *const u32,
+            code_words: usize,
+            text: *const u8,
+            text_bytes: usize,
+            start: usize,
+            registers: *mut i32,
+            register_count: usize,
+            workspace: *mut u32,
+            workspace_words: usize,
+        ) -> Ran;
+
+        fn millkettle_search_all_words(
+            code: *const u32,
+            code_words: usize,
+            text: *const u8,
+            text_bytes: usize,
+            start: usize,
+            list: *mut i32,
+            list_words: usize,
+            workspace: *mut u32,
+            workspace_words: usize,
+        ) -> Listed;
+    }
+
+    fn compile_by(
+        compile: Compile,
+        pattern: &[u8],
+        table: &mut [u32],
+        code: &mut [u32],
+    ) -> Compiled {
+        let (table, table_words) = (table.as_mut_ptr(), table.len());
+        let (code, code_words) = (code.as_mut_ptr(), code.len());
+        // SAFETY: each pointer is valid for its length, and `table` and `code` overlap nothing.
+        unsafe { compile(pattern.as_ptr(), pattern.len(), table, table_words, code, code_words) }
+    }
+
+    fn run_by<R>(
+        run: Run<R>,
+        code: &[u32],
+        text: &[u8],
+        start: usize,
+        spans: &mut [i32],
+        workspace: &mut [u32],
+    ) -> R {
+        // SAFETY: each pointer is valid for its length, and `spans` and `workspace` overlap nothing.
+        unsafe {
+            run(
+                code.as_ptr(),
+                code.len(),
+                text.as_ptr(),
+                text.len(),
+                start,
+                spans.as_mut_ptr(),
+                spans.len(),
+                workspace.as_mut_ptr(),
+                workspace.len(),
+            )
+        }
+    }
+
+    /// Compiles a pattern into the lent code words, with a lent table.
+    pub fn compile(pattern: &[u8], table: &mut [u32], code: &mut [u32]) -> Compiled {
+        compile_by(millkettle_compile_words, pattern, table, code)
+    }
+
+    /// Tidies a pattern and compiles what is left.
+    #[cfg(feature = "tidied")]
+    pub fn compile_tidied(pattern: &[u8], table: &mut [u32], code: &mut [u32]) -> Compiled {
+        compile_by(millkettle_compile_tidied_words, pattern, table, code)
+    }
+
+    /// Runs code on a text, matching at the start.
+    pub fn match_at(
+        code: &[u32],
+        text: &[u8],
+        start: usize,
+        registers: &mut [i32],
+        workspace: &mut [u32],
+    ) -> Ran {
+        run_by(millkettle_match_words, code, text, start, registers, workspace)
+    }
+
+    /// Runs code on a text, searching from the start on.
+    pub fn search(
+        code: &[u32],
+        text: &[u8],
+        start: usize,
+        registers: &mut [i32],
+        workspace: &mut [u32],
+    ) -> Ran {
+        run_by(millkettle_search_words, code, text, start, registers, workspace)
+    }
+
+    /// Finds every match from the start on, into the lent list.
+    pub fn search_all(
+        code: &[u32],
+        text: &[u8],
+        start: usize,
+        list: &mut [i32],
+        workspace: &mut [u32],
+    ) -> Listed {
+        run_by(millkettle_search_all_words, code, text, start, list, workspace)
+    }
 }

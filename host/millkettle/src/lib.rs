@@ -1,8 +1,9 @@
 //! Millkettle: a regular-expression matcher whose every answer is proved, called from Rust.
 //!
 //! The pattern language is ECMA-262's without flags, look-around and back references; patterns and
-//! texts are bytes. The proved functions are in the archive `libhost.a`; this crate is a safe
-//! wrapper over them and adds nothing to their answers.
+//! texts are bytes. The proved functions are in the archives `libhost.a`, on bytes and at the intake
+//! program's sizes ([`raw`]), and `libengine_c.a`, on words and at the library's own limits
+//! ([`words`]); this crate is a safe wrapper over them and adds nothing to their answers.
 //! A call takes some 40 KB of stack, and no memory from the heap but the wrapper's own.
 //!
 //! ```
@@ -12,6 +13,17 @@
 //! let found = pattern.search(b"xxabbcd", 0)?.expect("it is there");
 //! assert_eq!((found.start(), found.end()), (2, 6));
 //! assert_eq!(found.group(1), Some((3, 5)));
+//! # Ok::<(), Box<dyn std::error::Error>>(())
+//! ```
+//!
+//! Every match, in order:
+//!
+//! ```
+//! use millkettle::Pattern;
+//!
+//! let pattern = Pattern::new(b"a*")?;
+//! let found: Vec<_> = pattern.find_iter(b"baaac")?.collect();
+//! assert_eq!(found, [0..0, 1..4, 4..4, 5..5]);
 //! # Ok::<(), Box<dyn std::error::Error>>(())
 //! ```
 //!
@@ -30,9 +42,10 @@ mod ffi;
 mod matching;
 mod pattern;
 pub mod raw;
+pub mod words;
 
 pub use error::{PatternError, RunError};
-pub use matching::{Answer, Match};
+pub use matching::{Answer, Match, Matches};
 pub use pattern::{Entry, Pattern};
 
 /// The examples of the guide are tests as well.

@@ -9,6 +9,15 @@ pub struct Answer {
     pub rows_executed: u64,
 }
 
+/// Every match, in order, and the count of rows executed.
+#[derive(Clone, Debug, PartialEq, Eq)]
+pub struct Matches {
+    /// The matches.
+    pub matches: Vec<Match>,
+    /// How many rows all runs executed together. It can grow with the square of the text's length.
+    pub rows_executed: u64,
+}
+
 /// A match: where the whole and each group start and end.
 ///
 /// ```
@@ -33,6 +42,11 @@ impl Match {
     pub(crate) fn of_registers(registers: &[u8], rows_executed: u64) -> Match {
         let word = |bytes: &[u8]| i32::from_le_bytes([bytes[0], bytes[1], bytes[2], bytes[3]]);
         Match { spans: registers.chunks_exact(4).map(word).collect(), rows_executed }
+    }
+
+    /// The match of these registers.
+    pub(crate) fn of_spans(spans: &[i32], rows_executed: u64) -> Match {
+        Match { spans: spans.to_vec(), rows_executed }
     }
 
     /// Where the match starts.
@@ -64,7 +78,7 @@ impl Match {
         &self.spans
     }
 
-    /// How many rows were executed to find it.
+    /// How many rows were executed to find it; with every other match if it is one of all.
     pub fn rows_executed(&self) -> u64 {
         self.rows_executed
     }

@@ -1,7 +1,9 @@
 //! A compiled pattern, and runs of it.
 
-use crate::raw::{self, Compiled};
-use crate::{Answer, Match, PatternError, RunError};
+use crate::raw::{self, Compiled, Ran};
+use crate::words;
+use crate::{Answer, Match, Matches, PatternError, RunError};
+use std::ops::Range;
 
 /// Where a run looks for a match.
 #[derive(Clone, Copy, Debug, PartialEq, Eq)]
@@ -12,11 +14,26 @@ pub enum Entry {
     Search,
 }
 
+/// A compiler on bytes, and the same on words.
+type Compilers = (fn(&[u8], &mut [u8]) -> Compiled, fn(&[u8], &mut [u32], &mut [u32]) -> Compiled);
+
+/// What the surface on bytes refuses for want of room.
+const TABLE_TOO_SMALL: u32 = 2;
+const CODE_TOO_SMALL: u32 = 16;
+
+/// The workspace words of the surface on bytes.
+const WORKSPACE_WORDS: usize = 8_000;
+
+/// The words of a list that are lent at first, at most: more are lent if more are needed.
+const LIST_WORDS: usize = 1 << 20;
+
+/// A list that is too short.
+const LIST_TOO_SHORT: u32 = 25;
+
 /// A compiled pattern.
 ///
-/// The surface has room for patterns of 128 bytes, of 96 rows, and of so many rows n and groups g
-/// that 16·n·(g+2) is at most 8,000: [`Pattern::new`] refuses a longer one with 2 and one of more
-/// rows with 16; runs of one with more rows and groups are refused with 24.
+/// A pattern has at most 2,048 bytes, 15 groups and 1,024 rows. What is beyond the sizes of
+/// [`raw`] is compiled and run by [`words`], with memory from the heap.
 ///
 /// ```
 /// use millkettle::Pattern;
@@ -29,6 +46,7 @@ pub enum Entry {
 pub struct Pattern {
     bytes: Vec<u8>,
     code: Vec<u8>,
+    words: Vec<u32>,
     rows: u32,
     groups: u32,
 }
@@ -36,7 +54,7 @@ pub struct Pattern {
 impl Pattern {
     /// Compiles a pattern.
     pub fn new(pattern: &[u8]) -> Result<Pattern, PatternError> {
-        Pattern::compiled_by(raw::compile, pattern)
+        Pattern::compiled_by((raw::compile, words::compile), pattern)
     }
 
     /// Tidies a pattern by the laws T1 to T9 and compiles what is left: the same answers from no
@@ -51,21 +69,38 @@ impl Pattern {
     /// ```
     #[cfg(feature = "tidied")]
     pub fn tidied(pattern: &[u8]) -> Result<Pattern, PatternError> {
-        Pattern::compiled_by(raw::compile_tidied, pattern)
+        Pattern::compiled_by((raw::compile_tidied, words::compile_tidied), pattern)
     }
 
-    fn compiled_by(
-        compile: fn(&[u8], &mut [u8]) -> Compiled,
-        pattern: &[u8],
-    ) -> Result<Pattern, PatternError> {
+    fn compiled_by(compilers: Compilers, pattern: &[u8]) -> Result<Pattern, PatternError> {
         let mut code = vec![0; raw::CODE_BYTES];
-        let Compiled { number, rows, groups, place } = compile(pattern, &mut code);
+        let compiled = (compilers.0)(pattern, &mut code);
+        if compiled.number == TABLE_TOO_SMALL || compiled.number == CODE_TOO_SMALL {
+            return Pattern::compiled_whole(compilers, pattern);
+        }
+        let words = code
+            .chunks_exact(4)
+            .map(|four| u32::from_le_bytes([four[0], four[1], four[2], four[3]]));
+        Pattern::of(compiled, words.collect(), pattern)
+    }
+
+    /// Compiles a pattern with room for any.
+    fn compiled_whole(compilers: Compilers, pattern: &[u8]) -> Result<Pattern, PatternError> {
+        let mut table = vec![0; words::TABLE_WORDS * (pattern.len() + 1)];
+        let mut code = vec![0; words::CODE_WORDS];
+        let compiled = (compilers.1)(pattern, &mut table, &mut code);
+        Pattern::of(compiled, code, pattern)
+    }
+
+    fn of(answer: Compiled, mut code: Vec<u32>, pattern: &[u8]) -> Result<Pattern, PatternError> {
+        let Compiled { number, rows, groups, place } = answer;
         if number != 0 {
             return Err(PatternError::new(number, place, pattern));
         }
         // A header and n rows of 12 words.
-        code.truncate(4 * 12 * (rows as usize + 1));
-        Ok(Pattern { bytes: pattern.to_vec(), code, rows, groups })
+        code.truncate(12 * (rows as usize + 1));
+        let bytes = code.iter().flat_map(|word| word.to_le_bytes()).collect();
+        Ok(Pattern { bytes: pattern.to_vec(), code: bytes, words: code, rows, groups })
     }
 
     /// The pattern's bytes, as they were given.
@@ -86,6 +121,11 @@ impl Pattern {
     /// The code: a header and n rows of 12 words, each four bytes, low byte first.
     pub fn code(&self) -> &[u8] {
         &self.code
+    }
+
+    /// The code as words.
+    pub fn words(&self) -> &[u32] {
+        &self.words
     }
 
     /// The match that begins at `start`, if there is one.
@@ -126,16 +166,111 @@ impl Pattern {
     /// # Ok::<(), Box<dyn std::error::Error>>(())
     /// ```
     pub fn run(&self, entry: Entry, text: &[u8], start: usize) -> Result<Answer, RunError> {
+        if self.is_beyond() {
+            return self.run_whole(entry, text, start);
+        }
         let mut buffer = [0; raw::REGISTER_BYTES];
-        let registers = &mut buffer[..4 * 2 * (self.groups as usize + 1)];
+        let registers = &mut buffer[..4 * self.width()];
         let ran = match entry {
             Entry::MatchAt => raw::match_at(&self.code, text, start, registers),
             Entry::Search => raw::search(&self.code, text, start, registers),
         };
-        if ran.number != 0 {
-            return Err(RunError::new(ran.number));
-        }
-        let found = (ran.found == 1).then(|| Match::of_registers(registers, ran.count));
-        Ok(Answer { found, rows_executed: ran.count })
+        answered(ran, || Match::of_registers(registers, ran.count))
     }
+
+    /// The same on words.
+    fn run_whole(&self, entry: Entry, text: &[u8], start: usize) -> Result<Answer, RunError> {
+        let mut registers = vec![0; self.width()];
+        let mut workspace = self.workspace();
+        let run = match entry {
+            Entry::MatchAt => words::match_at,
+            Entry::Search => words::search,
+        };
+        let ran = run(&self.words, text, start, &mut registers, &mut workspace);
+        answered(ran, || Match::of_spans(&registers, ran.count))
+    }
+
+    /// Every match from `start` on, in order, as repeated execution with the global flag finds
+    /// them, and the count of rows executed by all runs together.
+    ///
+    /// ```
+    /// use millkettle::Pattern;
+    ///
+    /// let all = Pattern::new(b"(a)|b")?.search_all(b"ab", 0)?;
+    /// let spans: Vec<_> = all.matches.iter().map(|found| found.spans()).collect();
+    /// assert_eq!(spans, [[0, 1, 0, 1], [1, 2, -1, -1]]);
+    /// assert_eq!(all.rows_executed, 33);
+    /// # Ok::<(), Box<dyn std::error::Error>>(())
+    /// ```
+    pub fn search_all(&self, text: &[u8], start: usize) -> Result<Matches, RunError> {
+        let mut workspace = self.workspace();
+        // With a list for as many matches as there can be, one pass is enough.
+        let most = self.width() * (text.len().saturating_sub(start) + 1);
+        let mut list = vec![0; most.min(LIST_WORDS)];
+        let mut listed = words::search_all(&self.words, text, start, &mut list, &mut workspace);
+        if listed.number == LIST_TOO_SHORT {
+            list = vec![0; listed.needed];
+            listed = words::search_all(&self.words, text, start, &mut list, &mut workspace);
+        }
+        if listed.number != 0 {
+            return Err(RunError::new(listed.number));
+        }
+        let spans = list.chunks_exact(self.width()).take(listed.matches);
+        let matches = spans.map(|spans| Match::of_spans(spans, listed.count)).collect();
+        Ok(Matches { matches, rows_executed: listed.count })
+    }
+
+    /// Where every match starts and ends, in order.
+    ///
+    /// ```
+    /// use millkettle::Pattern;
+    ///
+    /// let words = Pattern::new(br"\w+")?;
+    /// let found: Vec<_> = words.find_iter(b"level 1.42 m")?.collect();
+    /// assert_eq!(found, [0..5, 6..7, 8..10, 11..12]);
+    /// # Ok::<(), Box<dyn std::error::Error>>(())
+    /// ```
+    pub fn find_iter(&self, text: &[u8]) -> Result<impl Iterator<Item = Range<usize>>, RunError> {
+        Ok(self.captures_iter(text)?.map(|found| found.start()..found.end()))
+    }
+
+    /// Every match with its groups, in order.
+    ///
+    /// ```
+    /// use millkettle::Pattern;
+    ///
+    /// let links = Pattern::new(br"L(\d\d)")?;
+    /// let groups: Vec<_> = links.captures_iter(b"L03 L14")?.map(|link| link.group(1)).collect();
+    /// assert_eq!(groups, [Some((1, 3)), Some((5, 7))]);
+    /// # Ok::<(), Box<dyn std::error::Error>>(())
+    /// ```
+    pub fn captures_iter(&self, text: &[u8]) -> Result<impl Iterator<Item = Match>, RunError> {
+        Ok(self.search_all(text, 0)?.matches.into_iter())
+    }
+
+    /// The registers of a match.
+    fn width(&self) -> usize {
+        2 * (self.groups as usize + 1)
+    }
+
+    /// Whether the surface on bytes has no room for the code or for its runs.
+    fn is_beyond(&self) -> bool {
+        self.code.len() > raw::CODE_BYTES || self.workspace_words() > WORKSPACE_WORDS
+    }
+
+    fn workspace_words(&self) -> usize {
+        words::workspace_words(self.rows, self.groups)
+    }
+
+    fn workspace(&self) -> Vec<u32> {
+        vec![0; self.workspace_words()]
+    }
+}
+
+/// A run's answer, with the match if there is one.
+fn answered(ran: Ran, found: impl FnOnce() -> Match) -> Result<Answer, RunError> {
+    if ran.number != 0 {
+        return Err(RunError::new(ran.number));
+    }
+    Ok(Answer { found: (ran.found == 1).then(found), rows_executed: ran.count })
 }

@@ -3,9 +3,9 @@
 
 mod common;
 use common::{bytes_of, register_words, run_raw, words_of};
-use millkettle::{raw, Entry, Pattern};
+use millkettle::{raw, words, Entry, Pattern};
 use reference::intake::CODE_WORDS;
-use reference::lines::{lines, Answers, Line, Run};
+use reference::lines::{lines, Answers, Line, Listed, Run};
 use reference::refusal::{refuse, Refusal, CODE_TOO_SMALL, TABLE_TOO_SMALL};
 use reference::rows::ROW_WORDS;
 
@@ -53,6 +53,15 @@ impl Answers for Surface {
             return refuse(ran.number, ran.place);
         }
         Ok((ran.found == 1, ran.count))
+    }
+
+    fn list(&self, code: &[u32], text: &[u8], start: usize, list: &mut [i32]) -> Listed {
+        let mut workspace = vec![5; words::workspace_words(code[0], code[1])];
+        let listed = words::search_all(code, text, start, list, &mut workspace);
+        if listed.number != 0 {
+            return Err((Refusal { number: listed.number, place: listed.place }, listed.needed));
+        }
+        Ok((listed.matches, listed.count))
     }
 }
 

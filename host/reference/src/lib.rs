@@ -12,6 +12,7 @@
 //! | [`rows`] | a tree | rows and code words, refusals 15, 16; the check 20 |
 //! | [`compile`] | pattern bytes | code words, plain or tidied |
 //! | [`steps`] | code words, text | the outline's step machine, refusals 20 to 24 |
+//! | [`repetition`] | code words, text | every match, refusals 20 to 25 |
 //! | [`matcher::memory`] | rows, text | ordered search that tries nothing twice |
 //! | [`matcher::standard`] | a tree, text | the standard's own matcher |
 //! | [`intake`] | a whole input | what the intake program writes |
@@ -28,6 +29,7 @@ pub mod matcher;
 pub mod node;
 pub mod reader;
 pub mod refusal;
+pub mod repetition;
 pub mod rows;
 pub mod sets;
 pub mod steps;

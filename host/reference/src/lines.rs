@@ -1,7 +1,7 @@
 //! The lines whose answers are known: the files of the program `lines`, which asks the proved calls
 //! in memory that it lends them. The tests put the same questions to whatever else answers.
 
-use crate::refusal::Refusal;
+use crate::refusal::{Refusal, LIST_TOO_SHORT};
 use crate::rows::ROW_WORDS;
 use crate::steps::Entry;
 use std::fs;
@@ -26,7 +26,14 @@ pub trait Answers {
     /// A run with four registers, found or none and the count of rows executed.
     fn run(&self, code: &[u32], run: Run, registers: &mut [i32; 4])
         -> Result<(bool, u64), Refusal>;
+
+    /// Every match from a start on, into a list: how many, and the count of rows executed; or the
+    /// words needed.
+    fn list(&self, code: &[u32], text: &[u8], start: usize, list: &mut [i32]) -> Listed;
 }
+
+/// What a call for every match answers: matches and count, or the refusal with the words needed.
+pub type Listed = Result<(usize, u64), (Refusal, usize)>;
 
 /// What a run is lent besides code and registers.
 #[derive(Clone, Copy, Debug)]
@@ -76,6 +83,7 @@ impl Line {
     pub fn pattern(&self) -> Option<&str> {
         match self.asks() {
             "match" | "search" | "find" => Some(self.behind(3)),
+            "all" => Some(self.behind(5)),
             "compile" | "tidied" => Some(self.behind(1)),
             _ => None,
         }
@@ -91,6 +99,8 @@ impl Line {
             "tidied" => format!("{}: {}", self.question, size(answers.compile(pattern, true))),
             "match" => format!("{on}: {}", self.run(answers, plain(), Entry::MatchAt)),
             "search" | "find" => format!("{on}: {}", self.run(answers, plain(), Entry::Search)),
+            "all" => format!("{on}: {}", self.list(answers, plain())),
+            "every" => format!("{on}: {}", self.list(answers, Ok(self.rows(0)))),
             "rows" => format!("{on}: {}", self.run(answers, Ok(self.rows(0)), Entry::MatchAt)),
             "unused" => format!("{on}: {}", self.run(answers, Ok(self.rows(1)), Entry::MatchAt)),
             _ => panic!("no question: {}", self.question),
@@ -111,6 +121,25 @@ impl Line {
         };
         let [a, b, c, d] = registers;
         format!("{answer}: {a} {b} {c} {d}")
+    }
+
+    /// The answer of a call for every match, and eight words of the list, which all held 7.
+    fn list(&self, answers: &dyn Answers, code: Result<Vec<u32>, Refusal>) -> String {
+        let digit = |at: usize| self.behind(at).get(..1).and_then(|digit| digit.parse().ok());
+        let asked = if self.pattern().is_some() { (digit(1), digit(3)) } else { (None, None) };
+        let (start, words) = (asked.0.unwrap_or(0), asked.1.unwrap_or(8));
+        let mut list = [7; 8];
+        let code = code.unwrap_or_else(|refusal| panic!("{refusal:?}"));
+        let lent = &mut list[..words];
+        let answer = match answers.list(&code, self.text.as_bytes(), start, lent) {
+            Ok((matches, count)) => format!("matches {matches}, rows {count}"),
+            Err((refusal, _)) if refusal.number != LIST_TOO_SHORT => {
+                format!("refused {}", refusal.number)
+            }
+            Err((refusal, needed)) => format!("refused {}, needed {needed}", refusal.number),
+        };
+        let list: Vec<String> = list.iter().map(i32::to_string).collect();
+        format!("{answer}: {}", list.join(" "))
     }
 
     /// Nine rows, all Accept but those that are given, with a number in the words that are not used.

@@ -56,3 +56,5 @@ pub const START_BEYOND: u32 = 22;
 pub const REGISTERS_TOO_FEW: u32 = 23;
 /// 24: workspace under 16·n·(g+2) words.
 pub const WORKSPACE_TOO_SMALL: u32 = 24;
+/// 25: a list shorter than the number of matches times 2(g+1).
+pub const LIST_TOO_SHORT: u32 = 25;

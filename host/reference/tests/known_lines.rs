@@ -4,8 +4,9 @@ mod common;
 use common::*;
 use reference::compile::{compile, compile_tidied};
 use reference::intake;
-use reference::lines::{lines, Answers, Run};
-use reference::refusal::Refusal;
+use reference::lines::{lines, Answers, Listed, Run};
+use reference::refusal::{Refusal, LIST_TOO_SHORT};
+use reference::repetition::{search_all, Listing};
 use reference::steps::{run, Entry, Lent};
 use reference::tidier::tidy;
 use std::fs;
@@ -26,6 +27,20 @@ impl Answers for Reference {
         let spans = answer.spans.clone().unwrap_or(vec![-1; 2 * (code[1] as usize + 1)]);
         registers[..spans.len()].copy_from_slice(&spans);
         Ok((answer.spans.is_some(), answer.count))
+    }
+
+    fn list(&self, code: &[u32], text: &[u8], start: usize, list: &mut [i32]) -> Listed {
+        match search_all(code, text, start, list.len(), ROOM) {
+            Ok(Listing::Listed { matches, count }) => {
+                let spans = matches.concat();
+                list[..spans.len()].copy_from_slice(&spans);
+                Ok((matches.len(), count))
+            }
+            Ok(Listing::Short { needed }) => {
+                Err((Refusal { number: LIST_TOO_SHORT, place: 0 }, needed))
+            }
+            Err(refusal) => Err((refusal, 0)),
+        }
     }
 }
 

@@ -1,0 +1,4 @@
+pub mod Listings
+pub mod Passing
+pub mod Laws
+pub mod Listed
