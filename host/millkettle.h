@@ -53,6 +53,21 @@ typedef struct {
     uint64_t count;  /* how many rows were executed: at most 2 * rows at each position; 0 if refused */
 } millkettle_ran;
 
+/* What reading a field answers. */
+typedef struct {
+    uint32_t number;   /* 0, or the number of the refusal: 28 */
+    uint32_t decimals; /* how many digits stood behind the point; 0 if refused */
+    size_t place;      /* 0: a refused span has no other place */
+    double value;      /* the float nearest to the number, -0.0 behind a minus; 0.0 if refused */
+} millkettle_field;
+
+/* What a gate answers. */
+typedef struct {
+    uint32_t number; /* 0, or the number of the refusal: 29 */
+    uint32_t passes; /* 1 passes; 0 stopped, or refused */
+    size_t place;    /* 0: a refused gate has no other place */
+} millkettle_passed;
+
 /* Compiles a pattern into code. Not refused, the first 48 * (rows + 1) bytes of code are the code; later bytes stay.
  * Refused, all stay. 2 refuses patterns of 129 to 2,048 bytes, 1 longer ones; 16 refuses 12 * (rows + 1) words that
  * are more than the whole words of code_len, or more than 1,164. */
@@ -114,6 +129,16 @@ millkettle_ran millkettle_search_words(const uint32_t *code, size_t code_len, co
 millkettle_listed millkettle_search_all_words(const uint32_t *code, size_t code_len, const uint8_t *text, size_t text_len,
                                               size_t start, int32_t *list, size_t list_len, uint32_t *workspace,
                                               size_t workspace_len);
+
+/* Reads the span of a text from start to end, two registers as they stand, as a number: an optional minus, one or more
+ * digits, optionally a point and one or more digits, 15 digits at most in all. 28 refuses any other span, also -1 and -1,
+ * a reversed one and one past the text. The value is the digits as a whole number divided once by a power of ten. */
+millkettle_field millkettle_read_field(const uint8_t *text, size_t text_len, int32_t start, int32_t end);
+
+/* Whether a value is at least low and at most high, both included. With -INFINITY as low it is a gate that says at most,
+ * with INFINITY as high one that says at least. 29 refuses a limit that is no number. With low above high nothing passes,
+ * nor does a value that is no number. */
+millkettle_passed millkettle_pass(double low, double high, double value);
 
 #ifdef __cplusplus
 }

@@ -105,6 +105,23 @@ int main(void) {
     r = run(0, "aab", 0, MILLKETTLE_REGISTER_BYTES);
     expect(r.number == 0 && r.found == 1 && register_at(0) == 0 && register_at(1) == 2, "it matches 0,2 in aab");
 
+    const uint8_t *line = (const uint8_t *)"L03 -48.25 dB";
+    millkettle_field f = millkettle_read_field(line, 13, 4, 10);
+    expect(f.number == 0 && f.decimals == 2 && f.place == 0 && f.value == -48.25, "-48.25 with two decimals");
+    f = millkettle_read_field(line, 13, 4, 11);
+    expect(f.number == 28 && f.decimals == 0 && f.place == 0 && f.value == 0.0, "a space behind it: refusal 28");
+    expect(millkettle_read_field(line, 13, -1, -1).number == 28, "a group that took no part: refusal 28");
+    expect(millkettle_read_field(line, 13, 4, 14).number == 28, "past the text: refusal 28");
+    double none = 0.0 / 0.0, most = 1.0 / 0.0;
+    millkettle_passed p = millkettle_pass(-most, -40.0, -48.25);
+    expect(p.number == 0 && p.passes == 1 && p.place == 0, "-48.25 is at most -40.0");
+    p = millkettle_pass(-most, -40.0, -39.0);
+    expect(p.number == 0 && p.passes == 0 && p.place == 0, "-39.0 is not");
+    expect(millkettle_pass(-48.25, -48.25, -48.25).passes == 1, "ends are included");
+    p = millkettle_pass(-40.0, -50.0, -45.0);
+    expect(p.number == 0 && p.passes == 0, "a lower limit above the upper passes nothing");
+    expect(millkettle_pass(none, 0.0, 0.0).number == 29 && millkettle_pass(0.0, none, 0.0).number == 29, "no number: 29");
+
     c = compile("a**");
     expect(c.number == 6 && c.place == 2 && c.rows == 0 && c.groups == 0, "a** refuses 6 at 2");
     return failed;

@@ -1,2 +1,3 @@
 pub mod Surface
+pub mod Readings
 pub mod Laws

@@ -1,5 +1,7 @@
 // Millkettle for programs in other languages: numbers and byte slices, words as four bytes, low byte first. The header
 // millkettle.h says it in C.
+mod readings; // readings.rt: fields as numbers, and gates
+
 ghost use mathlib.Core.Path.{_≡_};
 ghost use mathlib.Core.Bool.{true, false, cond};
 ghost use Prim.Native.Nat.{min};

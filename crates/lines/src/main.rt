@@ -4,6 +4,7 @@ mod answers;
 mod limits;
 mod made;
 mod questions;
+mod readings;
 
 use libc::STDIN_FILENO;
 

@@ -1,6 +1,6 @@
 // The questions: `match 0 PATTERN`, `search 0 PATTERN` and `find 0 PATTERN` with the start, `all 0 8 PATTERN` with the start and
 // the words of the list, `compile PATTERN` and `tidied PATTERN`, and `rows` with rows by hand, `every` with rows of which every
-// match is asked for, or `unused` with a 1 in each word that they do not use.
+// match is asked for, or `unused` with a 1 in each word that they do not use; readings.rt has those on fields and gates.
 ghost use mathlib.Core.Path.{_≡_};
 ghost use Prim.Native.Nat.{_-_, _<_, _≤_};
 ghost use lib.ListN.{length, getD};
@@ -11,6 +11,7 @@ use crate::answers::found;
 use crate::answers::say;
 use crate::answers::tidied;
 use crate::made;
+use crate::readings;
 
 // The byte at a place, or 0 behind the end.
 pub fn byte_at(line: &[u8], at: usize) -> u8
@@ -85,18 +86,34 @@ fn ask(question: &[u8], text: &[u8]) {
             digit_at(question, 7) as usize,
         ),
         b'f' => find(rest(question, 7), text, digit_at(question, 5) as usize),
-        b'a' => all(
-            rest(question, 8),
-            text,
-            digit_at(question, 4) as usize,
-            digit_at(question, 6) as usize,
-        ),
+        b'a' => {
+            if byte_at(question, 1) == b'l' {
+                let start = digit_at(question, 4) as usize;
+                all(
+                    rest(question, 8),
+                    text,
+                    start,
+                    digit_at(question, 6) as usize,
+                )
+            } else {
+                on(text);
+                readings::gate(question, text)
+            }
+        }
         b'e' => {
             on(text);
             made::list(rest(question, 5), text)
         }
         b'c' => compiled(rest(question, 8)),
         b't' => tidied(rest(question, 7)),
+        b'n' => {
+            on(text);
+            readings::number(question, text)
+        }
+        b'b' => {
+            on(text);
+            readings::gate(question, text)
+        }
         b'u' => {
             on(text);
             made::ask(rest(question, 6), text, 1)

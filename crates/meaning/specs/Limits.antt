@@ -75,3 +75,7 @@ codeSize = 1164
 
 abbrev pub workspaceSize : ℕ
 workspaceSize = 8000
+
+-- The most digits of a number (refusal 28).
+abbrev pub digitLimit : ℕ
+digitLimit = 15

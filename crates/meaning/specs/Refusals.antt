@@ -79,3 +79,10 @@ smallWorkspace = 24
 -- A list too short for the matches of a repetition.
 abbrev pub shortList : ℕ
 shortList = 25
+
+-- A span that is no number, one of no bytes included; a gate whose limit is no number.
+abbrev pub badField : ℕ
+badField = 28
+
+abbrev pub badGate : ℕ
+badGate = 29

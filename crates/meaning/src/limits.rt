@@ -45,3 +45,6 @@ pub const NO_BYTE: u32 = 256;
 
 // LF, which ends a line.
 pub const LF: u8 = 10;
+
+// The most digits of a number (refusal 28).
+pub const DIGIT_LIMIT: u32 = 15;

@@ -55,3 +55,8 @@ pub const SMALL_WORKSPACE: u32 = 24;
 
 // A list too short for the matches of a repetition.
 pub const SHORT_LIST: u32 = 25;
+
+// A span that is no number, one of no bytes included; a gate whose limit is no number.
+pub const BAD_FIELD: u32 = 28;
+
+pub const BAD_GATE: u32 = 29;

@@ -1,13 +1,19 @@
-// The calls that users link: patterns are compiled, code is matched and searched, and `find` does both. None asks anything of
-// its arguments: what it cannot do it refuses by the outline's number, and a refusal leaves behind what the outline says.
+// The calls that users link: patterns are compiled, code is matched and searched, and `find` does both; what was captured is read
+// as a number, and gates say whether it passes. None asks anything of its arguments: what it cannot do it refuses by the outline's number, and a refusal leaves behind what the outline says.
 ghost use mathlib.Core.Path.{_≡_};
 ghost use Rattle.machine.specs.Steps.{searchRow, matchRow};
 ghost use Rattle.compiler.specs.Compiling.{plain, tidied, Compiles};
 ghost use Rattle.engine.specs.Answers.{Answered};
 ghost use Rattle.repetition.specs.Listings.{Lists};
+ghost use Rattle.fields.specs.Scanning.{fieldOf};
+ghost use Rattle.fields.specs.Gates.{passing, passingField};
 ghost use Rattle.millkettle.specs.Finding.{findingOf, Finds};
 pub use compiler::Compilation;
 pub use engine::Answer;
+pub use fields::Field;
+pub use fields::Gate;
+pub use fields::Passing;
+pub use fields::Reading;
 pub use repetition::Listing;
 
 // What `find` answers: found or none with the count of rows executed, or the number and the place of a refusal.
@@ -114,4 +120,27 @@ pub fn find(
             as_finding(engine::search(code, text, start, registers, workspace))
         }
     }
+}
+
+// A captured span, two registers as they stand, read as a number: an optional minus, one or more digits, optionally a point and
+// one or more digits, 15 digits at most in all. Any other span is refused as 28, one that has no bytes in the text included.
+pub fn read_field(text: &[u8], start: i32, end: i32) -> Field
+    ensures { λ r. ⌜ r ≡ fieldOf (now (text .entry)) start end ⌝ }
+{
+    fields::read_field(text, start, end)
+}
+
+// Whether a gate passes what was read, ends included. A gate whose limit is no number is refused as 29, and one whose lower
+// limit is above its upper passes nothing.
+pub fn pass(gate: Gate, reading: Reading) -> Passing
+    ensures { λ r. ⌜ r ≡ passing gate reading ⌝ }
+{
+    fields::pass(gate, reading)
+}
+
+// Whether a gate passes a captured span. A span that is no number is refused first.
+pub fn pass_field(gate: Gate, text: &[u8], start: i32, end: i32) -> Passing
+    ensures { λ r. ⌜ r ≡ passingField gate (now (text .entry)) start end ⌝ }
+{
+    fields::pass_field(gate, text, start, end)
 }

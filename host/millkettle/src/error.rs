@@ -1,10 +1,10 @@
-//! Why a pattern or a run was turned away: the outline's numbers, in its words.
+//! Why a pattern, a run, a span or a gate was turned away: the outline's numbers, in its words.
 
 use std::error::Error;
 use std::fmt::{self, Display, Formatter};
 
 /// The meaning of each refusal.
-const MEANINGS: [(u32, &str); 22] = [
+const MEANINGS: [(u32, &str); 24] = [
     (1, "the pattern is over 2,048 bytes"),
     (2, "the table is under 32(p+1) words: it has room for a pattern of 128 bytes"),
     (3, "a byte above 7F"),
@@ -27,6 +27,8 @@ const MEANINGS: [(u32, &str); 22] = [
     (23, "fewer than 2(g+1) registers"),
     (24, "the workspace is under 16·n·(g+2) words: it has 8,000"),
     (25, "the list is shorter than the number of matches times 2(g+1)"),
+    (28, "the span is no number"),
+    (29, "a limit of the gate is no number"),
 ];
 
 fn meaning(number: u32) -> &'static str {
@@ -154,6 +156,41 @@ impl Display for RunError {
 
 impl Error for RunError {}
 
+/// Why a span was not read as a number, or a gate was turned away.
+///
+/// ```
+/// let error = millkettle::Reading::of_span(b"-- m", 0, 2).unwrap_err();
+/// assert_eq!(error.to_string(), "refused 28: the span is no number");
+/// ```
+#[derive(Clone, Copy, Debug, PartialEq, Eq)]
+pub struct FieldError {
+    number: u32,
+}
+
+impl FieldError {
+    pub(crate) fn new(number: u32) -> FieldError {
+        FieldError { number }
+    }
+
+    /// The refusal's number, 28 or 29.
+    pub fn number(&self) -> u32 {
+        self.number
+    }
+
+    /// What the number means.
+    pub fn meaning(&self) -> &'static str {
+        meaning(self.number)
+    }
+}
+
+impl Display for FieldError {
+    fn fmt(&self, out: &mut Formatter) -> fmt::Result {
+        write!(out, "refused {}: {}", self.number, self.meaning())
+    }
+}
+
+impl Error for FieldError {}
+
 #[cfg(test)]
 mod tests {
     use super::*;
@@ -176,6 +213,6 @@ mod tests {
     #[test]
     fn every_number_has_a_meaning() {
         let listed: Vec<u32> = (0..=30).filter(|&n| meaning(n) != meaning(0)).collect();
-        assert_eq!(listed, (1..=16).chain(20..=25).collect::<Vec<_>>());
+        assert_eq!(listed, (1..=16).chain(20..=25).chain(28..=29).collect::<Vec<_>>());
     }
 }

@@ -48,6 +48,32 @@ pub struct Listed {
     pub count: u64,
 }
 
+/// What reading a field answers: 0, the value and its decimals; or a refusal's number.
+#[repr(C)]
+#[derive(Clone, Copy, Debug, PartialEq)]
+pub struct Read {
+    /// 0, or the refusal's number, 28.
+    pub number: u32,
+    /// How many digits stood behind the point; 0 if refused.
+    pub decimals: u32,
+    /// Always 0: "at place 0".
+    pub place: usize,
+    /// The value; 0 if refused.
+    pub value: f64,
+}
+
+/// What a gate answers: 0, and passes or not; or a refusal's number.
+#[repr(C)]
+#[derive(Clone, Copy, Debug, PartialEq, Eq)]
+pub struct Passed {
+    /// 0, or the refusal's number, 29.
+    pub number: u32,
+    /// 1 if the value passes, 0 if it is stopped or refused.
+    pub passes: u32,
+    /// Always 0: "at place 0".
+    pub place: usize,
+}
+
 type Compile = unsafe extern "C" fn(*const u8, usize, *mut u8, usize) -> Compiled;
 type Run = unsafe extern "C" fn(*const u8, usize, *const u8, usize, usize, *mut u8, usize) -> Ran;
 
@@ -86,6 +112,10 @@ extern "C" {
         registers: *mut u8,
         registers_bytes: usize,
     ) -> Ran;
+
+    fn millkettle_read_field(text: *const u8, text_bytes: usize, start: i32, end: i32) -> Read;
+
+    fn millkettle_pass(low: f64, high: f64, value: f64) -> Passed;
 }
 
 fn compile_by(compile: Compile, pattern: &[u8], code: &mut [u8]) -> Compiled {
@@ -275,4 +305,16 @@ pub mod words {
     ) -> Listed {
         run_by(millkettle_search_all_words, code, text, start, list, workspace)
     }
+}
+
+/// Reads the span of a text between two registers as a number.
+pub fn read_field(text: &[u8], start: i32, end: i32) -> Read {
+    // SAFETY: the pointer is valid for its length.
+    unsafe { millkettle_read_field(text.as_ptr(), text.len(), start, end) }
+}
+
+/// Whether a value lies between two limits, ends included.
+pub fn pass(low: f64, high: f64, value: f64) -> Passed {
+    // SAFETY: numbers are passed, and nothing is lent.
+    unsafe { millkettle_pass(low, high, value) }
 }

@@ -27,6 +27,19 @@
 //! # Ok::<(), Box<dyn std::error::Error>>(())
 //! ```
 //!
+//! What a group captured can be read as a number, and put to a gate:
+//!
+//! ```
+//! use millkettle::{Gate, Pattern};
+//!
+//! let pattern = Pattern::new(br"(L\d\d) (-?\d+\.\d+) dB")?;
+//! let found = pattern.search(b"06:15 L03 -48.25 dB", 0)?.expect("it is there");
+//! let level = found.number(2)?;
+//! assert_eq!((level.value, level.decimals), (-48.25, 2));
+//! assert!(Gate::AtMost(-40.0).passes(level)?);
+//! # Ok::<(), Box<dyn std::error::Error>>(())
+//! ```
+//!
 //! A refused pattern says what is wrong with it, and where:
 //!
 //! ```
@@ -39,14 +52,16 @@
 mod error;
 #[allow(unsafe_code)]
 mod ffi;
+mod fields;
 mod matching;
 mod pattern;
 pub mod raw;
 pub mod words;
 
-pub use error::{PatternError, RunError};
+pub use error::{FieldError, PatternError, RunError};
+pub use fields::{Gate, Reading};
 pub use matching::{Answer, Match, Matches};
-pub use pattern::{Entry, Pattern};
+pub use pattern::{Entry, Found, Pattern};
 
 /// The examples of the guide are tests as well.
 #[cfg(doctest)]

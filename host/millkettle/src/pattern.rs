@@ -5,6 +5,9 @@ use crate::words;
 use crate::{Answer, Match, Matches, PatternError, RunError};
 use std::ops::Range;
 
+/// The match that a run found, if there is one, or why it was turned away.
+pub type Found<'t> = Result<Option<Match<'t>>, RunError>;
+
 /// Where a run looks for a match.
 #[derive(Clone, Copy, Debug, PartialEq, Eq)]
 pub enum Entry {
@@ -139,7 +142,7 @@ impl Pattern {
     /// assert_eq!(pattern.match_at(b"cab", 4).unwrap_err().number(), 22);
     /// # Ok::<(), Box<dyn std::error::Error>>(())
     /// ```
-    pub fn match_at(&self, text: &[u8], start: usize) -> Result<Option<Match>, RunError> {
+    pub fn match_at<'t>(&self, text: &'t [u8], start: usize) -> Found<'t> {
         Ok(self.run(Entry::MatchAt, text, start)?.found)
     }
 
@@ -152,7 +155,7 @@ impl Pattern {
     /// assert_eq!(pattern.search(b"aab", 1)?.map(|found| found.start()), Some(2));
     /// # Ok::<(), Box<dyn std::error::Error>>(())
     /// ```
-    pub fn search(&self, text: &[u8], start: usize) -> Result<Option<Match>, RunError> {
+    pub fn search<'t>(&self, text: &'t [u8], start: usize) -> Found<'t> {
         Ok(self.run(Entry::Search, text, start)?.found)
     }
 
@@ -165,7 +168,12 @@ impl Pattern {
     /// assert_eq!((answer.found, answer.rows_executed), (None, 13));
     /// # Ok::<(), Box<dyn std::error::Error>>(())
     /// ```
-    pub fn run(&self, entry: Entry, text: &[u8], start: usize) -> Result<Answer, RunError> {
+    pub fn run<'t>(
+        &self,
+        entry: Entry,
+        text: &'t [u8],
+        start: usize,
+    ) -> Result<Answer<'t>, RunError> {
         if self.is_beyond() {
             return self.run_whole(entry, text, start);
         }
@@ -175,11 +183,16 @@ impl Pattern {
             Entry::MatchAt => raw::match_at(&self.code, text, start, registers),
             Entry::Search => raw::search(&self.code, text, start, registers),
         };
-        answered(ran, || Match::of_registers(registers, ran.count))
+        answered(ran, || Match::of_registers(text, registers, ran.count))
     }
 
     /// The same on words.
-    fn run_whole(&self, entry: Entry, text: &[u8], start: usize) -> Result<Answer, RunError> {
+    fn run_whole<'t>(
+        &self,
+        entry: Entry,
+        text: &'t [u8],
+        start: usize,
+    ) -> Result<Answer<'t>, RunError> {
         let mut registers = vec![0; self.width()];
         let mut workspace = self.workspace();
         let run = match entry {
@@ -187,7 +200,7 @@ impl Pattern {
             Entry::Search => words::search,
         };
         let ran = run(&self.words, text, start, &mut registers, &mut workspace);
-        answered(ran, || Match::of_spans(&registers, ran.count))
+        answered(ran, || Match::of_spans(text, &registers, ran.count))
     }
 
     /// Every match from `start` on, in order, as repeated execution with the global flag finds
@@ -202,7 +215,7 @@ impl Pattern {
     /// assert_eq!(all.rows_executed, 33);
     /// # Ok::<(), Box<dyn std::error::Error>>(())
     /// ```
-    pub fn search_all(&self, text: &[u8], start: usize) -> Result<Matches, RunError> {
+    pub fn search_all<'t>(&self, text: &'t [u8], start: usize) -> Result<Matches<'t>, RunError> {
         let mut workspace = self.workspace();
         // With a list for as many matches as there can be, one pass is enough.
         let most = self.width() * (text.len().saturating_sub(start) + 1);
@@ -216,7 +229,7 @@ impl Pattern {
             return Err(RunError::new(listed.number));
         }
         let spans = list.chunks_exact(self.width()).take(listed.matches);
-        let matches = spans.map(|spans| Match::of_spans(spans, listed.count)).collect();
+        let matches = spans.map(|spans| Match::of_spans(text, spans, listed.count)).collect();
         Ok(Matches { matches, rows_executed: listed.count })
     }
 
@@ -230,7 +243,10 @@ impl Pattern {
     /// assert_eq!(found, [0..5, 6..7, 8..10, 11..12]);
     /// # Ok::<(), Box<dyn std::error::Error>>(())
     /// ```
-    pub fn find_iter(&self, text: &[u8]) -> Result<impl Iterator<Item = Range<usize>>, RunError> {
+    pub fn find_iter<'t>(
+        &self,
+        text: &'t [u8],
+    ) -> Result<impl Iterator<Item = Range<usize>> + 't, RunError> {
         Ok(self.captures_iter(text)?.map(|found| found.start()..found.end()))
     }
 
@@ -244,7 +260,10 @@ impl Pattern {
     /// assert_eq!(groups, [Some((1, 3)), Some((5, 7))]);
     /// # Ok::<(), Box<dyn std::error::Error>>(())
     /// ```
-    pub fn captures_iter(&self, text: &[u8]) -> Result<impl Iterator<Item = Match>, RunError> {
+    pub fn captures_iter<'t>(
+        &self,
+        text: &'t [u8],
+    ) -> Result<impl Iterator<Item = Match<'t>> + 't, RunError> {
         Ok(self.search_all(text, 0)?.matches.into_iter())
     }
 
@@ -268,7 +287,7 @@ impl Pattern {
 }
 
 /// A run's answer, with the match if there is one.
-fn answered(ran: Ran, found: impl FnOnce() -> Match) -> Result<Answer, RunError> {
+fn answered<'t>(ran: Ran, found: impl FnOnce() -> Match<'t>) -> Result<Answer<'t>, RunError> {
     if ran.number != 0 {
         return Err(RunError::new(ran.number));
     }

@@ -19,6 +19,7 @@
 #[cfg(feature = "tidied")]
 pub use crate::ffi::compile_tidied;
 pub use crate::ffi::{compile, match_at, search, Compiled, Ran};
+pub use crate::ffi::{pass, read_field, Passed, Read};
 
 /// The code bytes that can be used, of however many are lent: 1,164 words.
 pub const CODE_BYTES: usize = 4 * 1_164;

@@ -4,6 +4,7 @@
 mod common;
 use common::{bytes_of, register_words, run_raw, words_of};
 use millkettle::{raw, words, Entry, Pattern};
+use reference::fields::{Gate, Reading};
 use reference::intake::CODE_WORDS;
 use reference::lines::{lines, Answers, Line, Listed, Run};
 use reference::refusal::{refuse, Refusal, CODE_TOO_SMALL, TABLE_TOO_SMALL};
@@ -62,6 +63,27 @@ impl Answers for Surface {
             return Err((Refusal { number: listed.number, place: listed.place }, listed.needed));
         }
         Ok((listed.matches, listed.count))
+    }
+
+    fn number(&self, text: &[u8], start: i32, end: i32) -> Result<Reading, Refusal> {
+        let read = raw::read_field(text, start, end);
+        if read.number != 0 {
+            return refuse(read.number, read.place);
+        }
+        Ok(Reading { value: read.value, decimals: read.decimals })
+    }
+
+    fn passes(&self, gate: Gate, value: f64) -> Result<bool, Refusal> {
+        let (low, high) = match gate {
+            Gate::AtMost(limit) => (f64::NEG_INFINITY, limit),
+            Gate::AtLeast(limit) => (limit, f64::INFINITY),
+            Gate::Between(low, high) => (low, high),
+        };
+        let passed = raw::pass(low, high, value);
+        if passed.number != 0 {
+            return refuse(passed.number, passed.place);
+        }
+        Ok(passed.passes == 1)
     }
 }
 

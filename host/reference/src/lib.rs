@@ -15,6 +15,7 @@
 //! | [`repetition`] | code words, text | every match, refusals 20 to 25 |
 //! | [`matcher::memory`] | rows, text | ordered search that tries nothing twice |
 //! | [`matcher::standard`] | a tree, text | the standard's own matcher |
+//! | [`fields`] | a text and a span | a number or refusal 28; gates, refusal 29 |
 //! | [`intake`] | a whole input | what the intake program writes |
 //! | [`generate`] | a seed | random patterns, texts and code |
 //! | [`lines`] | the program `lines`' files | its questions, put to what answers |
@@ -22,6 +23,7 @@
 #![deny(missing_docs)]
 
 pub mod compile;
+pub mod fields;
 pub mod generate;
 pub mod intake;
 pub mod lines;

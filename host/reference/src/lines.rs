@@ -1,6 +1,7 @@
 //! The lines whose answers are known: the files of the program `lines`, which asks the proved calls
 //! in memory that it lends them. The tests put the same questions to whatever else answers.
 
+use crate::fields::{Gate, Reading};
 use crate::refusal::{Refusal, LIST_TOO_SHORT};
 use crate::rows::ROW_WORDS;
 use crate::steps::Entry;
@@ -30,6 +31,12 @@ pub trait Answers {
     /// Every match from a start on, into a list: how many, and the count of rows executed; or the
     /// words needed.
     fn list(&self, code: &[u32], text: &[u8], start: usize, list: &mut [i32]) -> Listed;
+
+    /// A span of a text, read as a number.
+    fn number(&self, text: &[u8], start: i32, end: i32) -> Result<Reading, Refusal>;
+
+    /// Whether a gate passes a value.
+    fn passes(&self, gate: Gate, value: f64) -> Result<bool, Refusal>;
 }
 
 /// What a call for every match answers: matches and count, or the refusal with the words needed.
@@ -103,7 +110,38 @@ impl Line {
             "every" => format!("{on}: {}", self.list(answers, Ok(self.rows(0)))),
             "rows" => format!("{on}: {}", self.run(answers, Ok(self.rows(0)), Entry::MatchAt)),
             "unused" => format!("{on}: {}", self.run(answers, Ok(self.rows(1)), Entry::MatchAt)),
+            "number" => format!("{on}: {}", self.number(answers)),
+            "at" | "between" => format!("{on}: {}", self.passing(answers)),
             _ => panic!("no question: {}", self.question),
+        }
+    }
+
+    /// The number that two registers' span holds.
+    fn number(&self, answers: &dyn Answers) -> String {
+        let register = |from: usize| self.question[from..from + 2].parse().unwrap_or(-1);
+        match answers.number(self.text.as_bytes(), register(7), register(10)) {
+            Ok(reading) => {
+                format!("bits {:016x}, decimals {}", reading.value.to_bits(), reading.decimals)
+            }
+            Err(refusal) => refused(refusal),
+        }
+    }
+
+    /// Whether a gate passes the whole text. A limit that is not written as a number is none.
+    fn passing(&self, answers: &dyn Answers) -> String {
+        let words: Vec<&str> = self.question.split(' ').collect();
+        let limit = |word: &str| word.parse().unwrap_or(f64::NAN);
+        let gate = match words[..] {
+            ["at", "most", high] => Gate::AtMost(limit(high)),
+            ["at", "least", low] => Gate::AtLeast(limit(low)),
+            ["between", low, high] => Gate::Between(limit(low), limit(high)),
+            _ => panic!("no gate: {}", self.question),
+        };
+        let read = answers.number(self.text.as_bytes(), 0, self.text.len() as i32);
+        match read.and_then(|reading| answers.passes(gate, reading.value)) {
+            Ok(true) => "passes".to_string(),
+            Ok(false) => "stopped".to_string(),
+            Err(refusal) => refused(refusal),
         }
     }
 

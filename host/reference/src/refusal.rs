@@ -3,7 +3,7 @@
 /// A refusal: the number in the outline's tables, and the place.
 #[derive(Clone, Copy, Debug, PartialEq, Eq)]
 pub struct Refusal {
-    /// 1 to 16 for a pattern, 20 to 24 for a run.
+    /// 1 to 16 for a pattern, 20 to 24 for a run, 28 for a span, 29 for a gate.
     pub number: u32,
     /// The place in the pattern, as its row of the table says.
     pub place: usize,
@@ -58,3 +58,7 @@ pub const REGISTERS_TOO_FEW: u32 = 23;
 pub const WORKSPACE_TOO_SMALL: u32 = 24;
 /// 25: a list shorter than the number of matches times 2(g+1).
 pub const LIST_TOO_SHORT: u32 = 25;
+/// 28: a span that is no number.
+pub const NOT_A_NUMBER: u32 = 28;
+/// 29: a gate whose limit is no number.
+pub const NOT_A_LIMIT: u32 = 29;

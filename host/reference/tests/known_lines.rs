@@ -3,6 +3,7 @@
 mod common;
 use common::*;
 use reference::compile::{compile, compile_tidied};
+use reference::fields::{self, Gate, Reading};
 use reference::intake;
 use reference::lines::{lines, Answers, Listed, Run};
 use reference::refusal::{Refusal, LIST_TOO_SHORT};
@@ -41,6 +42,14 @@ impl Answers for Reference {
             }
             Err(refusal) => Err((refusal, 0)),
         }
+    }
+
+    fn number(&self, text: &[u8], start: i32, end: i32) -> Result<Reading, Refusal> {
+        fields::read_field(text, start, end)
+    }
+
+    fn passes(&self, gate: Gate, value: f64) -> Result<bool, Refusal> {
+        fields::pass(gate, value)
     }
 }
 

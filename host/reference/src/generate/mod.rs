@@ -1,10 +1,12 @@
-//! Random patterns, texts and code from a seed: the same seed gives the same.
+//! Random patterns, texts, code and numbers from a seed: the same seed gives the same.
 
 mod code;
+mod numerals;
 mod patterns;
 mod texts;
 
 pub use code::{code, damaged_code};
+pub use numerals::{damaged_numeral, numeral};
 pub use patterns::{damaged_pattern, pattern};
 pub use texts::{long_text, text};
 
