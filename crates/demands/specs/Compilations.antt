@@ -61,12 +61,14 @@ unfolding reading alternativesGo sequenceGo itemAt itemBy openingAt quantifierAt
     codeOf anyByte setOf wordOf
 star-code = refl
 
--- `a{1}?` is `a`, `(?:a?)??` stays, and `a|abc|d` is `a(?:|bc)|d`, which takes two records more and a row less.
+-- `a{1}?` is `a`, `(?:a?)??` stays, and `a|abc|d` is `a(?:|bc)|d`, which takes two records more and a row less. `(?:a*)+` is
+-- `a*`, and `(?:a*)+?` stays.
 either-way : (either "a{1}?" ≡ (Rows 10 0, Rows 9 0)) × (either "(?:a?)??" ≡ (Rows 17 0, Rows 17 0))
-    × (either "a|abc|d" ≡ (Rows 17 0, Rows 16 0))
+    × (either "a|abc|d" ≡ (Rows 17 0, Rows 16 0)) × (either "(?:a*)+" ≡ (Rows 23 0, Rows 13 0))
+    × (either "(?:a*)+?" ≡ (Rows 23 0, Rows 23 0))
 unfolding reading alternativesGo sequenceGo itemAt itemBy openingAt quantifierAt bracesAt numberAt numberGo parts isDigit sizeOf
     computed setOf wordOf
-either-way = (refl, refl, refl)
+either-way = (refl, refl, refl, refl, refl)
 
 -- 16 is by the tidied rows: 108 need more words than there are, and 8 do not. 15 is by the plain ones: 2,008, and not 8.
 limits : (either "(?:){100}" ≡ (Refused 16 0, Rows 8 0)) × (either "(?:){1000}(?:){1000}" ≡ (Refused 15 0, Refused 15 0))

@@ -4,7 +4,7 @@
 -- toolchain's part: a function that may not end, or reaches further, is not proved.
 use mathlib.Core.Path.{_≡_, refl, sym}
 use mathlib.Core.Logic.{_↔_}
-use mathlib.Core.Bool.{Bool}
+use mathlib.Core.Bool.{Bool, true}
 use mathlib.Core.Option.{Option}
 use mathlib.Core.List.{List, _∷_, _++_}
 use Prim.Native.Nat.{ℕ, suc, _+_, _*_, _-_, _≤_, _<_}
@@ -20,7 +20,8 @@ use Rattle.meaning.specs.Node.{Node}
 use Rattle.meaning.specs.Refusals as No
 use Rattle.meaning.specs.Standard.{searchFrom}
 use Rattle.machine.specs.Steps.{count, seen, Done}
-use Rattle.machine.specs.Words.{rowsSaid}
+use Rattle.machine.specs.Words.{rowsSaid, decode}
+use Rattle.machine.specs.Inner.{innerRows, inner, Straight, RowsApart, fixed}
 use Rattle.machine.specs.Replies.{valuesOf, lentBy, turnedAway, refusal, runOf, replyTo}
 use Rattle.machine.specs.Repetition.{repetition, executedIn}
 use Rattle.tidying_laws.specs.List.{becomes}
@@ -43,6 +44,7 @@ use Rattle.host.specs.declared.Ran.{Ran}
 use Rattle.demands.specs.Patterns.{Replies, answered-exactly, Left, left-behind}
 use Rattle.demands.specs.Runs.{bounded-rows, counted-rows, turned-rows, ended-run, position-rows, stepsOf}
 use Rattle.demands.specs.Runs.{SomeStandard, compiled-standard, rows-bytes}
+use Rattle.demands.specs.Tight.{compiled-tight, compiled-once, compiled-inner}
 use Rattle.demands.specs.HostAnswers.{keptGrounds, bytesFrom, host-standard}
 use Rattle.demands.specs.IntakeAnswers.{lineSaying, lineGrounds, intake-standard}
 use Rattle.demands.specs.Tidied.{Neat, neat, outcome, SameSpans, same-answers, SameStandard, laws-standard}
@@ -82,6 +84,37 @@ pub demand-1-rows : (way : Way) {code text : List ℕ} {start : ℕ} {registers 
     × (executed r ≤ 2 * rowsSaid code * (length text - start + 1))
 demand-1-rows way {code} {text} {start} {registers} {workspace = workspace} a =
     (position-rows way code text start registers workspace, bounded-rows a)
+
+-- For code that `compile` or `compile_tidied` left the bound is tighter: at any one position at most n rows are executed, and
+-- inner rows once more: those behind a Begin, up to and with its End, outside the prefix; and so for each position;
+pub demand-1-tight : (way : Way) {tidying : Bool} {s text : List ℕ} {start : ℕ} {table table′ code code′ : List ℕ}
+    {registers registers′ : List ℤ} {workspace workspace′ : List ℕ} {n g : ℕ} {r : Answer}
+    → Compiles tidying s table table′ code code′ (Rows n g)
+    → Answered code′ text start (rowOf way) registers workspace r registers′ workspace′
+    → (turnedAway n g (lentBy text start registers workspace) ≡ 0 → (m : ℕ)
+    → length (seen (stepsOf code′ text start (rowOf way) m)) ≤ n + innerRows (decode code′))
+    × (executed r ≤ (n + innerRows (decode code′)) * (length text - start + 1))
+demand-1-tight = compiled-tight
+
+-- where no Begin and no End stands outside the prefix each row is executed at most once at any one position, and so at most n
+-- for each position;
+pub demand-1-once : (way : Way) {tidying : Bool} {s text : List ℕ} {start : ℕ} {table table′ code code′ : List ℕ}
+    {registers registers′ : List ℤ} {workspace workspace′ : List ℕ} {n g : ℕ} {r : Answer}
+    → Compiles tidying s table table′ code code′ (Rows n g)
+    → Answered code′ text start (rowOf way) registers workspace r registers′ workspace′
+    → Straight (decode code′)
+    → (turnedAway n g (lentBy text start registers workspace) ≡ 0 → (m : ℕ)
+    → RowsApart (seen (stepsOf code′ text start (rowOf way) m)))
+    × (executed r ≤ n * (length text - start + 1))
+demand-1-once = compiled-once
+
+-- and by the pattern that derives, or that tidied: its inner rows, and that it is so exactly if every quantifier that writes
+-- rows has its minimum for its maximum.
+pub demand-1-inner : {tidying : Bool} {s table table′ code code′ : List ℕ} {n g : ℕ}
+    → Compiles tidying s table table′ code code′ (Rows n g)
+    → (node : Node) × Derives s node g × (innerRows (decode code′) ≡ inner (shaped tidying node))
+    × (Straight (decode code′) ↔ (fixed (shaped tidying node) ≡ true))
+demand-1-inner = compiled-inner
 
 -- The number, found or none, place and count that an answer stands for: a refusal has place 0 and count 0.
 pub demand-1-values : (k : ℕ) → valuesOf (replyOf (Refused k)) ≡ record { number = k; found = 0; place = 0; count = 0 }

@@ -1,5 +1,6 @@
 pub mod Patterns
 pub mod Runs
+pub mod Tight
 pub mod Tidied
 pub mod AllMatches
 pub mod Demands

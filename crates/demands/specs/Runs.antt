@@ -57,7 +57,7 @@ stepsOf code text start row m =
     steps (moveOf (textOf text) (decode code .rows)) m (begun start (firstThread (decode code) row ∷ []))
 
 -- Both ways begin at a row that any code has.
-row-few : (way : Way) → rowOf way < leastRows
+pub row-few : (way : Way) → rowOf way < leastRows
 row-few matching = omega arith
 row-few searching = omega arith
 

@@ -30,5 +30,6 @@ unfolding intakeOutput lineFor linesOf headerLine refusedAt refusedRun noneLine 
     digits reading alternativesGo sequenceGo itemAt itemBy openingAt quantifierAt bracesAt numberAt numberGo classAt classGo
     classAtom
     escapeAt parts isDigit isWord isDot sizeOf rowsOf past anyByte setOf wordOf has bit lo hi codeOf
-    refusal reply registersAfter rowsPass codePasses codeClean rowIn run steps unset fits holdsAt asserts opened closed cleared wiped
+    refusal reply registersAfter rowsPass codePasses codeClean rowIn run steps unset fits holdsAt asserts opened closed cleared
+    wiped
 outline-lines = (refl, refl, refl, refl)

@@ -2,27 +2,25 @@
 use mathlib.Core.Path.{_≡_, refl, ap, _∙_}
 use mathlib.Core.Logic.{_⊎_, inl, inr}
 use mathlib.Core.Bool.{Bool, true, false, _||_, _&&_}
-use mathlib.Core.Option.{none}
 use mathlib.Core.List.{List}
-use Prim.Native.Nat.{ℕ, zero, suc, _+_, _-_, _≤_, _<_}
+use Prim.Native.Nat.{ℕ, suc, _-_, _≤_, _<_}
 use native.Mathlib.Omega.{arith}
-use native.Mathlib.Decide.{decLt}
-use lib.Dec.{eqb, leb, ltb}
+use lib.Dec.{eqb, leb}
 use borrow.Author.Tests.{lt-ltb, le-leb, eq-eqb}
 use Rattle.sets.specs.Sets.{Formed}
 use Rattle.sets.specs.Bits.{below-all}
 use Rattle.sets.specs.Laws.{setOf-holds}
-use Rattle.meaning.specs.Node.{Node, Node.bset, Node.group, Node.many, lo, hi, Proper, within-fewer}
+use Rattle.meaning.specs.Node.{Node, Node.group, lo, hi, Proper, within-fewer}
 use Rattle.meaning.specs.Numbering.{Numbers, Range, range, forwards}
 use Rattle.machine.specs.Rows.{Row, Row.accept, Row.consume, Row.jump, Row.fork, Row.opens, Row.closes, Row.reset}
 use Rattle.machine.specs.Rows.{Row.begin, Row.end, Row.assertion}
-use Rattle.machine.specs.Rows.{Program, rowCount, rowAt}
+use Rattle.machine.specs.Rows.{rowCount, rowAt}
 use Rattle.machine.specs.Steps.{matchRow}
 use Rattle.machine.specs.Layout.{forkOf, anyByte, programOf}
 use Rattle.machine.specs.Laid.{Turn, Laid, Laid.nothing, Laid.one, Laid.test, Laid.inside, Laid.chain, Laid.either}
 use Rattle.machine.specs.Laid.{Laid.must, Laid.stop, Laid.may, Laid.loop}
-use Rattle.machine.specs.Laid.{grows, Stand, program-stands}
-use Rattle.machine.specs.Words.{rowPasses, mayBeLast, eachPasses, lastPasses, rowsPass}
+use Rattle.machine.specs.Laid.{grows, Each, nil, cons, join, Stand, program-stands}
+use Rattle.machine.specs.Words.{rowPasses, mayBeLast, lastPasses, rowsPass}
 
 -- A property of rows that holds of whatever the layout of a pattern with groups up to g writes into n rows.
 pub record Rules (n g : ℕ) (P : Row → Type 0) : Type 0 where
@@ -38,25 +36,8 @@ pub record Rules (n g : ℕ) (P : Row → Type 0) : Type 0 where
 
 module _ (rows : List Row) (n g : ℕ) (P : Row → Type 0) (rules : Rules n g P) where
   -- The rows from q to k have the property.
-  abbrev pub Pass : ℕ → ℕ → Type 0
-  Pass q k = (p : ℕ) → q ≤ p → p < k → P (rowAt rows p)
-
-  nil : (q : ℕ) → Pass q q
-  nil q p h h′ = absurd (omega arith)
-
-  cons : (q k : ℕ) {row : Row} → rowAt rows q ≡ row → P row → Pass (suc q) k → Pass q k
-  cons q k e l s p h h′ = go (decLt q p)
-    where
-      go : Dec (q < p) → P (rowAt rows p)
-      go (yes d) = s p d h′
-      go (no d) = let f : p ≡ q = omega arith in rw (f, e) l
-
-  join : (q m k : ℕ) → Pass q m → Pass m k → Pass q k
-  join q m k s t p h h′ = go (decLt p m)
-    where
-      go : Dec (p < m) → P (rowAt rows p)
-      go (yes d) = s p h d
-      go (no d) = t p (omega arith) h′
+  abbrev Pass : ℕ → ℕ → Type 0
+  Pass q k = Each rows (λ p. P) q k
 
   either-fork : (lazy : Bool) (q k : ℕ) → suc q < n → k < n → P (forkOf lazy q k)
   either-fork false q k h h′ = rules .forks (suc q) k h h′
@@ -69,48 +50,45 @@ module _ (rows : List Row) (n g : ℕ) (P : Row → Type 0) (rules : Rules n g P
   turn : {lazy : Bool} {r : Node} {q k m back : ℕ} → Turn rows lazy r q k m back → P (reset (lo r) (hi r))
       → Pass (suc (suc (suc q))) m → suc q < n → k < n → back < n → suc (suc (suc q)) ≤ m → Pass q (suc m)
   turn {lazy} {r} {q} {k} {m} {back} t clear s h h₁ h₂ le =
-      let after : Pass m (suc m) = cons m (suc m) (t .ends) (rules .ends back h₂) (nil (suc m)) in
-      let body : Pass (suc (suc q)) (suc m) = cons (suc (suc q)) (suc m) (t .resets) clear
-      (join (suc (suc (suc q))) m (suc m) s after) in
-      cons q (suc m) (t .forks) (either-fork lazy q k h h₁) (cons (suc q) (suc m) (t .begins) (rules .begins) body)
+      cons (t .forks) (either-fork lazy q k h h₁) (cons (t .begins) (rules .begins) (cons (t .resets) clear
+      (join s (cons (t .ends) (rules .ends back h₂) nil))))
 
   -- The rows that are laid for a pattern pass, with groups from a up to b and the rows after them in the program.
   pub laid-pass : {r : Node} {q k : ℕ} → Laid rows r q k
       → (a b : ℕ) → 1 ≤ a → b ≤ suc g → Numbers a r b → Proper r → k < n → Pass q k
-  laid-pass (nothing {q = q}) a b pos top num ok h = nil q
-  laid-pass (one {s = s} {q = q} e) a b pos top num ok h = cons q (suc q) e (rules .consumes s ok) (nil (suc q))
-  laid-pass (test {a = t} {q = q} e) a b pos top num ok h = cons q (suc q) e (rules .asserts t ok) (nil (suc q))
+  laid-pass nothing a b pos top num ok h = nil
+  laid-pass (one {s = s} e) a b pos top num ok h = cons e (rules .consumes s ok) nil
+  laid-pass (test {a = t} e) a b pos top num ok h = cons e (rules .asserts t ok) nil
   laid-pass (inside {n = k} {r = r} {q = q} {m = m} e l e′) a b pos top num ok h =
       let d : suc q ≤ m = grows l in
       let least : k ≤ g = omega (arith, num .0, forwards r (suc a) b (omega arith) (num .1)) in
-      let body : Pass (suc q) m = laid-pass l (suc a) b (omega arith) top (num .1) (ok .1) (omega arith) in
-      cons q (suc m) e (rules .groups k least .0)
-      (join (suc q) m (suc m) body (cons m (suc m) e′ (rules .groups k least .1) (nil (suc m))))
+      cons e (rules .groups k least .0) (join (laid-pass l (suc a) b (omega arith) top (num .1) (ok .1) (omega arith))
+      (cons e′ (rules .groups k least .1) nil))
   laid-pass (chain {r = r} {s = s} {q = q} {m = m} {k = k} l l′) a b pos top num ok h =
       let d : m ≤ k = grows l′ in
       let f : a ≤ num .0 = forwards r a (num .0) pos (num .1) in
       let f′ : num .0 ≤ b = forwards s (num .0) b (omega arith) (num .2) in
-      join q m k (laid-pass l a (num .0) pos (omega arith) (num .1) (ok .0) (omega arith))
+      join (laid-pass l a (num .0) pos (omega arith) (num .1) (ok .0) (omega arith))
       (laid-pass l′ (num .0) b (omega arith) top (num .2) (ok .1) h)
   laid-pass (either {r = r} {s = s} {q = q} {m = m} {k = k} e l e′ l′) a b pos top num ok h =
       let d : suc q ≤ m = grows l in
       let d′ : suc m ≤ k = grows l′ in
       let f : a ≤ num .0 = forwards r a (num .0) pos (num .1) in
       let f′ : num .0 ≤ b = forwards s (num .0) b (omega arith) (num .2) in
-      cons q k e (rules .forks (suc q) (suc m) (omega arith) (omega arith))
-      (join (suc q) m k (laid-pass l a (num .0) pos (omega arith) (num .1) (ok .0) (omega arith))
-      (cons m k e′ (rules .jumps k h) (laid-pass l′ (num .0) b (omega arith) top (num .2) (ok .1) h)))
+      cons e (rules .forks (suc q) (suc m) (omega arith) (omega arith))
+      (join (laid-pass l a (num .0) pos (omega arith) (num .1) (ok .0) (omega arith))
+      (cons e′ (rules .jumps k h) (laid-pass l′ (num .0) b (omega arith) top (num .2) (ok .1) h)))
   laid-pass (must {n = n} {e = more} {r = r} {q = q} {m = m} {k = k} e l l′) a b pos top num ok h =
       let d : suc q ≤ m = grows l in
       let d′ : m ≤ k = grows l′ in
-      cons q k e (clears a b (lo r) (hi r) pos top (range r a b pos num))
-      (join (suc q) m k (laid-pass l a b pos top num (ok .1) (omega arith))
+      cons e (clears a b (lo r) (hi r) pos top (range r a b pos num))
+      (join (laid-pass l a b pos top num (ok .1) (omega arith))
       (laid-pass l′ a b pos top num (within-fewer n more (ok .0), ok .1) h))
-  laid-pass (stop {q = q}) a b pos top num ok h = nil q
+  laid-pass stop a b pos top num ok h = nil
   laid-pass (may {r = r} {q = q} {m = m} {k = k} t l l′) a b pos top num ok h =
       let d : suc (suc (suc q)) ≤ m = grows l in
       let d′ : suc m ≤ k = grows l′ in
-      join q (suc m) k
+      join
       (turn t (clears a b (lo r) (hi r) pos top (range r a b pos num)) (laid-pass l a b pos top num (ok .1) (omega arith))
       (omega arith) h (omega arith) d)
       (laid-pass l′ a b pos top num (omega arith, ok .1) h)
@@ -124,8 +102,7 @@ module _ (rows : List Row) (n g : ℕ) (P : Row → Type 0) (rules : Rules n g P
   whole-pass (inside {q = q} {m = m} e l e′) num ok h =
       let d : suc q ≤ m = grows l in
       let (opens-it, closes-it) = rules .groups 0 (omega arith) in
-      let body : Pass (suc q) m = laid-pass l 1 (suc g) (omega arith) (omega arith) num ok (omega arith) in
-      cons q (suc m) e opens-it (join (suc q) m (suc m) body (cons m (suc m) e′ closes-it (nil (suc m))))
+      cons e opens-it (join (laid-pass l 1 (suc g) (omega arith) (omega arith) num ok (omega arith)) (cons e′ closes-it nil))
 
 -- Every row of a pattern's program has such a property, if its groups are numbered from 1 to g.
 pub every-row : (g : ℕ) (r : Node) → Numbers 1 r (suc g) → Proper r → (P : Row → Type 0) → Rules (rowCount (programOf g r)) g P
@@ -138,14 +115,12 @@ every-row g r num ok P rules q h =
     let k : ℕ = s .last in
     let d : suc k ≡ n = s .ends in
     let d₅ : matchRow ≤ k = grows (s .pattern) in
-    let prefix : Pass rows n g P rules 0 matchRow
+    let prefix : Each rows (λ p. P) 0 matchRow
     = laid-pass rows n g P rules (s .prefix) 1 1 (omega arith) (omega arith) refl
     (omega arith, setOf-holds (λ b. true) .formed) (omega arith) in
-    let pattern : Pass rows n g P rules matchRow k = whole-pass rows n g P rules (s .pattern) num ok (omega arith) in
-    let last : Pass rows n g P rules k (suc k)
-    = cons rows n g P rules k (suc k) (s .accepts) (rules .accepts) (nil rows n g P rules (suc k)) in
-    join rows n g P rules 0 matchRow (suc k) prefix (join rows n g P rules matchRow k (suc k) pattern last) q (omega arith)
-    (omega arith)
+    let pattern : Each rows (λ p. P) matchRow k = whole-pass rows n g P rules (s .pattern) num ok (omega arith) in
+    let last : Each rows (λ p. P) k (suc k) = cons (s .accepts) (rules .accepts) nil in
+    join prefix (join pattern last) .each q (omega arith) (omega arith)
 
 either-way : (x y : Bool) → (x ≡ true) ⊎ (y ≡ true) → (x || y) ≡ true
 either-way true y h = refl

@@ -3,9 +3,10 @@ use mathlib.Core.Path.{_≡_, refl, sym, ap, subst}
 use mathlib.Core.Bool.{Bool, true, false}
 use mathlib.Core.Option.{Option, none, some}
 use mathlib.Core.List.{List, [], _∷_, _++_, append-assoc}
-use Prim.Native.Nat.{ℕ, zero, suc, _+_, _*_, _≤_}
+use Prim.Native.Nat.{ℕ, zero, suc, _+_, _*_, _≤_, _<_}
 use native.Mathlib.Nat.{zero-mul, suc-mul}
 use native.Mathlib.Omega.{arith}
+use native.Mathlib.Decide.{decLt}
 use lib.ListN.{length, length-append}
 use lib.Seq.{getD-append-seam}
 use Rattle.meaning.specs.Node.{Node, Node.empty, Node.bset, Node.assert, Node.group, Node.seq, Node.alt, Node.many, lo, hi}
@@ -58,6 +59,28 @@ grows (must e l l′) = omega (arith, grows l, grows l′)
 grows stop = omega arith
 grows (may t l l′) = omega (arith, grows l, grows l′)
 grows (loop t l) = omega (arith, grows l)
+
+-- `Each rows P q k`: the rows from q up to k, each with its address, have a property.
+pub record Each (rows : List Row) (P : ℕ → Row → Type 0) (q k : ℕ) : Type 0 where
+  pub each : (p : ℕ) → q ≤ p → p < k → P p (rowAt rows p)
+
+module _ {rows : List Row} {P : ℕ → Row → Type 0} where
+  pub nil : {q : ℕ} → Each rows P q q
+  nil {q} = record { each = λ p h h′. absurd (omega arith) }
+
+  pub cons : {q k : ℕ} {row : Row} → rowAt rows q ≡ row → P q row → Each rows P (suc q) k → Each rows P q k
+  cons {q} {k} {row} e l s = record { each = λ p h h′. go p h h′ (decLt q p) }
+    where
+      go : (p : ℕ) → q ≤ p → p < k → Dec (q < p) → P p (rowAt rows p)
+      go p h h′ (yes d) = s .each p d h′
+      go p h h′ (no d) = let f : p ≡ q = omega arith in rw (f, e) l
+
+  pub join : {q m k : ℕ} → Each rows P q m → Each rows P m k → Each rows P q k
+  join {q} {m} {k} s t = record { each = λ p h h′. go p h h′ (decLt p m) }
+    where
+      go : (p : ℕ) → q ≤ p → p < k → Dec (p < m) → P p (rowAt rows p)
+      go p h h′ (yes d) = s .each p h d
+      go p h h′ (no d) = t .each p (omega arith) h′
 
 module _ (code : List Row) where
   -- Rows stand in the code from row q on, up to row k.

@@ -8,8 +8,12 @@ pub mod Compile
 pub mod Best
 pub mod Bound
 pub mod Words
+pub mod Inner
 pub mod Passed
 pub mod Compiled
+pub mod Tight
+pub mod Straight
+pub mod Counted
 pub mod Answers
 pub mod Coded
 pub mod Checked

@@ -16,8 +16,8 @@ use Rattle.machine.specs.Steps.{Thread, thread, Machine, Machine.machine, step,
 use Rattle.machine.specs.Steps.{count, enough, firstThread, run}
 use Rattle.machine.specs.Words.{rowsSaid, decode}
 use Rattle.machine.specs.Coded.{rowsIn-length}
-use Rattle.machine.specs.Bound.{Bound, begins, after, stays}
-use Rattle.machine.specs.Passed.{leads, frugal, run-done}
+use Rattle.machine.specs.Bound.{twoEach, Bound, stays}
+use Rattle.machine.specs.Passed.{bound, frugal, run-done}
 use Rattle.machine.specs.Replies.{runOf}
 use Rattle.running_moves.specs.Keys.{keyOf, key-of}
 use Rattle.running_moves.specs.Chosen.{byteOf}
@@ -74,11 +74,9 @@ module _ {code text : List ℕ} {start row : ℕ} {plan : Plan} (g : Begins code
   queued-inside : (p : ℕ) (t : Thread) (ts : List Thread) (ks : List Key) (b : Option Regs) (c : ℕ)
       → Leads (movesOf code text) beginning (machine p [] (t ∷ ts) ks b c) → p < length text
   queued-inside p t ts ks b c l =
-      subst (Bound n (length text) start (n + n)) (l .there)
-      (after n (length text) start (n + n) (movesOf code text) (leads program (g .ready .rows) (textOf text))
-      (l .turns) beginning
-      (begins n (length text) start (n + n) (firstThread program row ∷ []) first-in (omega (arith, row-low))
-      (omega arith) (g .within))) .soon .0 .1
+      subst (Bound (twoEach n) (length text) start (n + n)) (l .there)
+      (bound program (g .ready .rows) (textOf text) start (firstThread program row ∷ []) first-in (omega (arith, row-low))
+      (g .within) (l .turns)) .soon .0 .1
 
   held-inside : (p m k r w : ℕ) (s : List ℕ) (ks : List Key) (b : Option Regs) (c : ℕ) → 0 < m
       → Leads (movesOf code text) beginning (machine p [] (held s k r w m) ks b c) → p < length text
@@ -93,11 +91,10 @@ module _ {code text : List ℕ} {start row : ℕ} {plan : Plan} (g : Begins code
   is-run {N} l d =
       let move = movesOf code text in
       let e : ℕ = enough (textOf text) n start in
-      let inside = leads program (g .ready .rows) (textOf text) in
       let R : Machine = steps move e beginning in
       let dR : Done R = run-done program (g .ready .rows) (textOf text) start row row-low (g .within) in
-      let stay : steps move (l .turns) R ≡ R = stays n (length text) start (n + n) move inside (l .turns) R dR in
-      let stay′ : steps move e N ≡ N = stays n (length text) start (n + n) move inside e N d in
+      let stay : steps move (l .turns) R ≡ R = stays move (l .turns) R dR in
+      let stay′ : steps move e N ≡ N = stays move e N d in
       let z : e + l .turns ≡ l .turns + e = omega arith in
       sym stay ∙ add-steps move e (l .turns) beginning ∙ ap (λ (k : ℕ). steps move k beginning) z
       ∙ sym (add-steps move (l .turns) e beginning) ∙ ap (steps move e) (l .there) ∙ stay′

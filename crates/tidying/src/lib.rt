@@ -18,6 +18,7 @@ use tidying_laws::T6;
 use tidying_laws::T7;
 use tidying_laws::T8;
 use tidying_laws::T9;
+use tidying_laws::T10;
 use tidying_rewriting::drop_alternative;
 use tidying_rewriting::drop_empty;
 use tidying_rewriting::unnest;
@@ -67,6 +68,7 @@ fn rewrite(table: &mut [u32], n: usize, top: usize, law: u32) -> usize
         T7 => void(table, n, top),
         T8 => share(table, n, top),
         T9 => unnest(table, n, top),
+        T10 => unquantify(table, n, top),
         _ => n,
     }
 }

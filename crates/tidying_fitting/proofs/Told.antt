@@ -120,10 +120,11 @@ module _ {table : List ℕ} {top : ℕ} where
   pub quantified-kind : {o : Record} → Tells o table top ownOf → o .kind ≡ quantifierKind → Quantified table top
   quantified-kind t e = record { by = λ before r p. sym (ap (λ d. d .kind) (t .by before r p)) ∙ e }
 
-  pub quantified-ranged : {o : Record} (most : ℕ) → Tells o table top ownOf → ranged o most ≡ true → Quantified table top
-  quantified-ranged {o} most t e =
+  pub quantified-ranged : {o : Record} (least most : ℕ) → Tells o table top ownOf → ranged o least most ≡ true
+      → Quantified table top
+  quantified-ranged {o} least most t e =
       quantified-kind t (eqb-true (o .kind) quantifierKind
-      (and-true (eqb (o .kind) quantifierKind) (eqb (o .least) 0 && eqb (o .most) most) e .0))
+      (and-true (eqb (o .kind) quantifierKind) (eqb (o .least) least && eqb (o .most) most) e .0))
 
   pub quantified-passed : {b : Bool} (f : Node → Node → Bool) → Tells b table top (onPart f) → b ≡ true → Quantified table top
   quantified-passed f t e = record { by = λ before r p. passed f r (sym (t .by before r p) ∙ e) }
@@ -149,12 +150,13 @@ module _ {table : List ℕ} {top : ℕ} where
       → Tells false table top (onPart f)
   off-kind f t h = record { by = λ before r p. not-quantifier f r (λ e. h (ap (λ d. d .kind) (t .by before r p) ∙ e)) }
 
-  pub off-ranged : {o : Record} (most : ℕ) → Tells o table top ownOf → ranged o most ≡ false → Tells false table top
-      (isNested most)
-  off-ranged {o} most t h = record {
+  pub off-ranged : {o : Record} (least most : ℕ) → Tells o table top ownOf → ranged o least most ≡ false
+      → Tells false table top (isNested least most)
+  off-ranged {o} least most t h = record {
     by = λ before r p.
-        let no : ranged (ownOf r) most ≡ false = sym (ap (λ d. ranged d most) (t .by before r p)) ∙ h in
-        never (λ r q. nestedIn most (ownOf r) (ownOf q)) r (λ q. ap (λ b. b && (ranged (ownOf q) most && eqb (hi r) 0)) no);
+        let no : ranged (ownOf r) least most ≡ false = sym (ap (λ d. ranged d least most) (t .by before r p)) ∙ h in
+        never (λ r q. nestedIn least most (ownOf r) (ownOf q)) r
+        (λ q. ap (λ b. b && (ranged (ownOf q) 0 most && eqb (hi r) 0)) no);
   }
 
   -- A law that asks one test and then another.

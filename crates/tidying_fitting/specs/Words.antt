@@ -1,6 +1,6 @@
--- T2 to T5 and T9 by the words of a quantifier's own record, and of its part's.
+-- T2 to T5, T9 and T10 by the words of a quantifier's own record, and of its part's.
 use mathlib.Core.Path.{_≡_, refl, sym, _∙_}
-use mathlib.Core.Bool.{Bool, true, false, cond, _&&_, Bool·beq, false≢true}
+use mathlib.Core.Bool.{Bool, true, false, cond, not, _&&_, _||_, Bool·beq, false≢true}
 use mathlib.Core.Option.{Option, none, some}
 use mathlib.Core.List.{[]}
 use Prim.Native.Nat.{ℕ, zero, suc, _+_, _-_}
@@ -17,7 +17,7 @@ use Rattle.table.specs.Laws.{inner, kindOf, lastOf}
 use Rattle.tidying_laws.specs.Groups.{groups, Positive, proper-positive, positive-both, groupFree, free-groups, same-high}
 use Rattle.tidying_laws.specs.Equal.{same, same-eq, same-refl}
 use Rattle.tidying_laws.specs.Quantified.{absorbed}
-use Rattle.tidying_laws.specs.Laws.{when, counts, isEmpty, onAssert, onMany, t2, t3, t4, t5, t9}
+use Rattle.tidying_laws.specs.Laws.{when, counts, isEmpty, onAssert, onMany, t2, t3, t4, t5, t9, t10}
 use Rattle.tidying_fitting.specs.Fitting.{isSome, fits}
 use Rattle.tidying_fitting.specs.declared.Record.{Record}
 
@@ -93,16 +93,16 @@ onPart f (many n e lazy r) = f (many n e lazy r) r
 abbrev pub isOver : ℕ → Node → Bool
 isOver k = onPart (λ r q. eqb (kindOf q) k)
 
--- Whether a record is that of a quantifier of 0 to `most`.
-abbrev pub ranged : Record → ℕ → Bool
-ranged part most = eqb (part .kind) quantifierKind && (eqb (part .least) 0 && eqb (part .most) most)
+-- Whether a record is that of a quantifier of `least` to `most`.
+abbrev pub ranged : Record → ℕ → ℕ → Bool
+ranged part least most = eqb (part .kind) quantifierKind && (eqb (part .least) least && eqb (part .most) most)
 
--- Whether a part is a quantifier of 0 to `most` over another such one, with no group.
-abbrev pub nestedIn : ℕ → Record → Record → Bool
-nestedIn most outer inner = ranged outer most && (ranged inner most && eqb (outer .highest) 0)
+-- Whether a part is a quantifier of `least` to `most` over one of 0 to `most`, with no group.
+abbrev pub nestedIn : ℕ → ℕ → Record → Record → Bool
+nestedIn least most outer inner = ranged outer least most && (ranged inner 0 most && eqb (outer .highest) 0)
 
-abbrev pub isNested : ℕ → Node → Bool
-isNested most = onPart (λ r q. nestedIn most (ownOf r) (ownOf q))
+abbrev pub isNested : ℕ → ℕ → Node → Bool
+isNested least most = onPart (λ r q. nestedIn least most (ownOf r) (ownOf q))
 
 -- T2: the counts are the same, and at most 1.
 abbrev pub onceOrNever : Record → Bool
@@ -181,13 +181,15 @@ t4-over (many n e lazy r) = by r
     by (many n e lazy r) = refl
 
 -- The counts of a quantifier, as words.
-none-more : (n : ℕ) (e : Option ℕ) (lazy : Bool) (q : Node) → Within n e
-    → counts n e 0 none ≡ ranged (ownOf (many n e lazy q)) noMaximum
-none-more n none lazy q h = refl
-none-more n (some e) lazy q h = rw (ne-eqb (n + e) noMaximum (λ e. omega arith))
+abbrev Counted : ℕ → Option ℕ → ℕ → Type 0
+Counted least more most = (n : ℕ) (e : Option ℕ) (lazy : Bool) (q : Node) → Within n e
+    → counts n e least more ≡ ranged (ownOf (many n e lazy q)) least most
 
-one-more : (n : ℕ) (e : Option ℕ) (lazy : Bool) (q : Node) → Within n e
-    → counts n e 0 (some 1) ≡ ranged (ownOf (many n e lazy q)) 1
+none-more : (least : ℕ) → Counted least none noMaximum
+none-more least n none lazy q h = refl
+none-more least n (some e) lazy q h = rw (ne-eqb (n + e) noMaximum (λ e. omega arith))
+
+one-more : Counted 0 (some 1) 1
 one-more n none lazy q h = refl
 one-more zero (some e) lazy q h = let same : 0 + e ≡ e = omega arith in rw same
 one-more (suc n) (some e) lazy q h = rw (ne-eqb (suc n) 0 (λ e. omega arith))
@@ -205,7 +207,16 @@ same-word false true = refl
 same-word true false = refl
 same-word true true = refl
 
--- T5 and T9: such a quantifier over another, by what the two laws ask of the laziness.
+abbrev pub bothZero : ℕ → ℕ → Bool
+bothZero outer inner = eqb outer 0 && eqb inner 0
+
+greedy-word : (outer inner : Bool) → not (outer || inner) ≡ bothZero (bitOf outer) (bitOf inner)
+greedy-word false false = refl
+greedy-word false true = refl
+greedy-word true false = refl
+greedy-word true true = refl
+
+-- T5, T9 and T10: such a quantifier over another, by what the laws ask of the laziness.
 abbrev pub lazyWords : (ℕ → ℕ → Bool) → Node → Bool
 lazyWords f = onPart (λ r q. f (ownOf r .lazy) (ownOf q .lazy))
 
@@ -218,38 +229,37 @@ shuffle true false c d = refl
 shuffle false b c d = refl
 
 -- Where a quantifier's part is no quantifier, it is not nested.
-unnested : (most : ℕ) (o : Record) (q : Node) (b : Bool) → (kindOf q ≡ quantifierKind → ⊥)
-    → false ≡ (nestedIn most o (ownOf q) && b)
-unnested most o q b h = rw (ne-eqb (kindOf q) quantifierKind h, and-false (ranged o most))
+unnested : (least most : ℕ) (o : Record) (q : Node) (b : Bool) → (kindOf q ≡ quantifierKind → ⊥)
+    → false ≡ (nestedIn least most o (ownOf q) && b)
+unnested least most o q b h = rw (ne-eqb (kindOf q) quantifierKind h, and-false (ranged o least most))
 
-module _ (more : Option ℕ) (most : ℕ) (lazyTest : Bool → Bool → Bool) (wordTest : ℕ → ℕ → Bool)
-    (counted : (n : ℕ) (e : Option ℕ) (lazy : Bool) (q : Node) → Within n e → counts n e 0 more ≡ ranged
-    (ownOf (many n e lazy q)) most)
+module _ (least : ℕ) (more : Option ℕ) (most : ℕ) (lazyTest : Bool → Bool → Bool) (wordTest : ℕ → ℕ → Bool)
+    (made : Bool → Node → Node) (outside : Counted least more most) (inside : Counted 0 more most)
     (asWords : (inner outer : Bool) → lazyTest inner outer ≡ wordTest (bitOf outer) (bitOf inner)) where
   nested-words : (n : ℕ) (e : Option ℕ) (lazy : Bool) (q : Node) → Proper (many n e lazy q)
-      → isSome (onMany (λ m f inner r. when (counts n e 0 more && counts m f 0 more && lazyTest inner lazy && groupFree r)
-      (many 0 more lazy r)) q)
-      ≡ (isNested most (many n e lazy q) && lazyWords wordTest (many n e lazy q))
+      → isSome (onMany (λ m f inner r. when (counts n e least more && counts m f 0 more && lazyTest inner lazy && groupFree r)
+      (made lazy r)) q)
+      ≡ (isNested least most (many n e lazy q) && lazyWords wordTest (many n e lazy q))
   unfolding hi groups
   nested-words n e lazy (many m f inner q) h =
-      when-some (counts n e 0 more && counts m f 0 more && lazyTest inner lazy && groupFree q) (many 0 more lazy q)
+      when-some (counts n e least more && counts m f 0 more && lazyTest inner lazy && groupFree q) (made lazy q)
       ∙ rw (
-        counted n e lazy (many m f inner q) (h .0),
-        counted m f inner q (h .1 .0),
+        outside n e lazy (many m f inner q) (h .0),
+        inside m f inner q (h .1 .0),
         asWords inner lazy,
         free-highest q (proper-positive q (h .1 .1)),
-      ) (shuffle (ranged (ownOf (many n e lazy (many m f inner q))) most) (ranged (ownOf (many m f inner q)) most)
+      ) (shuffle (ranged (ownOf (many n e lazy (many m f inner q))) least most) (ranged (ownOf (many m f inner q)) 0 most)
       (wordTest (bitOf lazy) (bitOf inner)) (eqb (hi q) 0))
-  nested-words n e lazy empty h = unnested most (ownOf (many n e lazy empty)) empty _ (λ e. omega arith)
-  nested-words n e lazy (bset s) h = unnested most (ownOf (many n e lazy (bset s))) (bset s) _ (λ e. omega arith)
-  nested-words n e lazy (assert a) h = unnested most (ownOf (many n e lazy (assert a))) (assert a) _ (λ e. omega arith)
-  nested-words n e lazy (group k r) h = unnested most (ownOf (many n e lazy (group k r))) (group k r) _ (λ e. omega arith)
-  nested-words n e lazy (seq r q) h = unnested most (ownOf (many n e lazy (seq r q))) (seq r q) _ (λ e. omega arith)
-  nested-words n e lazy (alt r q) h = unnested most (ownOf (many n e lazy (alt r q))) (alt r q) _ (λ e. omega arith)
+  nested-words n e lazy empty h = unnested least most (ownOf (many n e lazy empty)) empty _ (λ e. omega arith)
+  nested-words n e lazy (bset s) h = unnested least most (ownOf (many n e lazy (bset s))) (bset s) _ (λ e. omega arith)
+  nested-words n e lazy (assert a) h = unnested least most (ownOf (many n e lazy (assert a))) (assert a) _ (λ e. omega arith)
+  nested-words n e lazy (group k r) h = unnested least most (ownOf (many n e lazy (group k r))) (group k r) _ (λ e. omega arith)
+  nested-words n e lazy (seq r q) h = unnested least most (ownOf (many n e lazy (seq r q))) (seq r q) _ (λ e. omega arith)
+  nested-words n e lazy (alt r q) h = unnested least most (ownOf (many n e lazy (alt r q))) (alt r q) _ (λ e. omega arith)
 
   nested-fits : (r : Node) → Proper r → isSome (onMany (λ n e lazy. onMany (λ m f inner r.
-      when (counts n e 0 more && counts m f 0 more && lazyTest inner lazy && groupFree r) (many 0 more lazy r))) r)
-      ≡ (isNested most r && lazyWords wordTest r)
+      when (counts n e least more && counts m f 0 more && lazyTest inner lazy && groupFree r) (made lazy r))) r)
+      ≡ (isNested least most r && lazyWords wordTest r)
   nested-fits empty h = refl
   nested-fits (bset s) h = refl
   nested-fits (assert a) h = refl
@@ -258,8 +268,13 @@ module _ (more : Option ℕ) (most : ℕ) (lazyTest : Bool → Bool → Bool) (w
   nested-fits (alt r q) h = refl
   nested-fits (many n e lazy q) h = nested-words n e lazy q h
 
-pub t5-words : (r : Node) → Proper r → fits t5 r ≡ (isNested noMaximum r && lazyWords leb r)
-t5-words = nested-fits none noMaximum absorbed leb none-more absorbed-word
+pub t5-words : (r : Node) → Proper r → fits t5 r ≡ (isNested 0 noMaximum r && lazyWords leb r)
+t5-words = nested-fits 0 none noMaximum absorbed leb (λ lazy r. many 0 none lazy r) (none-more 0) (none-more 0) absorbed-word
 
-pub t9-words : (r : Node) → Proper r → fits t9 r ≡ (isNested 1 r && lazyWords eqb r)
-t9-words = nested-fits (some 1) 1 (λ inner outer. Bool·beq outer inner) eqb one-more (λ inner outer. same-word outer inner)
+pub t9-words : (r : Node) → Proper r → fits t9 r ≡ (isNested 0 1 r && lazyWords eqb r)
+t9-words = nested-fits 0 (some 1) 1 (λ inner outer. Bool·beq outer inner) eqb (λ lazy r. many 0 (some 1) lazy r)
+    one-more one-more (λ inner outer. same-word outer inner)
+
+pub t10-words : (r : Node) → Proper r → fits t10 r ≡ (isNested 1 noMaximum r && lazyWords bothZero r)
+t10-words = nested-fits 1 none noMaximum (λ inner outer. not (outer || inner)) bothZero (λ lazy r. many 0 none false r)
+    (none-more 1) (none-more 0) (λ inner outer. greedy-word outer inner)

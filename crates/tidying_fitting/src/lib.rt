@@ -17,8 +17,9 @@ use tidying_laws::T6;
 use tidying_laws::T7;
 use tidying_laws::T8;
 use tidying_laws::T9;
+use tidying_laws::T10;
 
-mod quantifiers; // quantifiers.rt: T2 to T5 and T9, laws for a quantifier
+mod quantifiers; // quantifiers.rt: T2 to T5, T9 and T10, laws for a quantifier
 pub mod series; // series.rt: T1 and T6 to T8, laws for the items of a sequence and the alternatives of an alternation
 
 ghost use Rattle.table.specs.Laws.{lastOf};
@@ -97,6 +98,7 @@ pub fn fits(table: &[u32], top: usize, law: u32) -> bool
         T7 => series::void_part(table, top),
         T8 => series::shared_first(table, top),
         T9 => quantifiers::option_of_option(table, top),
+        T10 => quantifiers::loop_once_of_loop(table, top),
         _ => false,
     }
 }

@@ -1,4 +1,4 @@
-// The laws for a quantifier: T2 to T5 and T9. Its part's own record stands right below its own.
+// The laws for a quantifier: T2 to T5, T9 and T10. Its part's own record stands right below its own.
 use super::Record;
 use super::own;
 use meaning::limits::NO_MAXIMUM;
@@ -6,7 +6,7 @@ use table::ASSERTION;
 use table::EMPTY;
 use table::QUANTIFIER;
 ghost use mathlib.Core.Path.{_≡_};
-ghost use Rattle.tidying_laws.specs.Laws.{t2, t3, t4, t5, t9};
+ghost use Rattle.tidying_laws.specs.Laws.{t2, t3, t4, t5, t9, t10};
 ghost use Rattle.tidying_fitting.specs.Fitting.{fits};
 ghost use Rattle.table.specs.Stands.{SomePart};
 ghost use Rattle.tidying_fitting.specs.Parts.{Tells};
@@ -59,30 +59,30 @@ pub fn quantified_assertion(table: &[u32], top: usize) -> bool
     over(table, top, ASSERTION)
 }
 
-// Whether a part is a quantifier of 0 to `most`.
-fn ranges(part: Record, most: u32) -> bool
-    ensures { λ r. ⌜ r ≡ ranged part most ⌝ }
+// Whether a part is a quantifier of `least` to `most`.
+fn ranges(part: Record, least: u32, most: u32) -> bool
+    ensures { λ r. ⌜ r ≡ ranged part least most ⌝ }
 {
     if part.kind != QUANTIFIER {
         return false;
     }
-    if part.least != 0 {
+    if part.least != least {
         return false;
     }
     part.most == most
 }
 
-// Whether a part is a quantifier of 0 to `most` over another such one, with no group.
-fn nested(table: &[u32], top: usize, most: u32) -> bool
+// Whether a part is a quantifier of `least` to `most` over one of 0 to `most`, with no group.
+fn nested(table: &[u32], top: usize, least: u32, most: u32) -> bool
     requires { ⌜ SomePart (now table) top ⌝ }
-    ensures { λ r. ⌜ Tells r (now (table .entry)) top (isNested most) ⌝ }
+    ensures { λ r. ⌜ Tells r (now (table .entry)) top (isNested least most) ⌝ }
 {
     let outer = own(table, top);
-    if !ranges(outer, most) {
+    if !ranges(outer, least, most) {
         return false;
     }
     let inner = own(table, top - 1);
-    if !ranges(inner, most) {
+    if !ranges(inner, 0, most) {
         return false;
     }
     outer.highest == 0
@@ -93,7 +93,7 @@ pub fn loop_of_loop(table: &[u32], top: usize) -> bool
     requires { ⌜ SomePart (now table) top ⌝ }
     ensures { λ r. ⌜ Tells r (now (table .entry)) top (fits t5) ⌝ }
 {
-    if !nested(table, top, NO_MAXIMUM) {
+    if !nested(table, top, 0, NO_MAXIMUM) {
         return false;
     }
     let outer = own(table, top);
@@ -106,10 +106,26 @@ pub fn option_of_option(table: &[u32], top: usize) -> bool
     requires { ⌜ SomePart (now table) top ⌝ }
     ensures { λ r. ⌜ Tells r (now (table .entry)) top (fits t9) ⌝ }
 {
-    if !nested(table, top, 1) {
+    if !nested(table, top, 0, 1) {
         return false;
     }
     let outer = own(table, top);
     let inner = own(table, top - 1);
     outer.lazy == inner.lazy
+}
+
+// T10: (?:r*)+, both greedy.
+pub fn loop_once_of_loop(table: &[u32], top: usize) -> bool
+    requires { ⌜ SomePart (now table) top ⌝ }
+    ensures { λ r. ⌜ Tells r (now (table .entry)) top (fits t10) ⌝ }
+{
+    if !nested(table, top, 1, NO_MAXIMUM) {
+        return false;
+    }
+    let outer = own(table, top);
+    let inner = own(table, top - 1);
+    if outer.lazy != 0 {
+        return false;
+    }
+    inner.lazy == 0
 }

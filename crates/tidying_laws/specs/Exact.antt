@@ -1,7 +1,7 @@
 -- A law fits exactly where its words apply, and what it makes is what they say.
 use mathlib.Core.Path.{_≡_, refl, sym, ap, subst, _∙_}
 use mathlib.Core.Logic.{_⊎_, inl, inr}
-use mathlib.Core.Bool.{Bool, true, false, cond, _&&_, _||_, Bool·beq, false≢true}
+use mathlib.Core.Bool.{Bool, true, false, cond, not, _&&_, _||_, Bool·beq, false≢true}
 use mathlib.Core.Option.{Option, none, some, Option·map, IsSome}
 use mathlib.Core.List.{List, [], _∷_, _++_, map, append-assoc}
 use Prim.Native.Nat.{ℕ, zero, suc, _≤_}
@@ -20,17 +20,17 @@ use Rattle.tidying_laws.specs.Quantified.{absorbed}
 use Rattle.tidying_laws.specs.Equal.{same, same-eq}
 use Rattle.tidying_laws.specs.Laws.{when, onAlternatives, counts, isEmpty, filled, isVoid, distinct}
 use Rattle.tidying_laws.specs.Laws.{possible, impossible, firstSet, run, glues, shared, sharedAt, share}
-use Rattle.tidying_laws.specs.Laws.{t1, t2, t3, t4, t5, t6, t7, t8, t9}
+use Rattle.tidying_laws.specs.Laws.{t1, t2, t3, t4, t5, t6, t7, t8, t9, t10}
 use Rattle.tidying_laws.specs.Kept.{Ok, ok-test, ok-when, ok-else, ok-map, ok-imp, ok-two}
 use Rattle.tidying_laws.specs.Alternatives.{void-set}
 use Rattle.tidying_laws.specs.Items.{filled-others}
-use Rattle.tidying_laws.specs.Quantifiers.{counts-eq, tests, on-many, on-assert}
+use Rattle.tidying_laws.specs.Quantifiers.{counts-eq, tests, on-many, on-assert, both-greedy}
 use Rattle.tidying_laws.specs.Runs.{Longest, run-longest, glues-join}
 use Rattle.tidying_laws.specs.Words.{OnParts, EmptyItem, Times, OnceOrNever, ManyEmpty, EmptyOrItself, ManyAssertion}
 use Rattle.tidying_laws.specs.Words.{LoopOfLoops, EqualAlternative, VoidAlternative, EmptySet, OptionOfOption}
-use Rattle.tidying_laws.specs.Words.{Leads, rest, Adjacent, SameFirst}
+use Rattle.tidying_laws.specs.Words.{LoopOnceOfLoops, Leads, rest, Adjacent, SameFirst}
 use Rattle.tidying_laws.specs.Fits.{t1-fits, t2-fits, t3-fits, t4-fits, t5-fits, t6-fits, t7-fits, t8-fits, t9-fits}
-use Rattle.tidying_laws.specs.Fits.{adjacent-shared, share-fits}
+use Rattle.tidying_laws.specs.Fits.{t10-fits, adjacent-shared, share-fits}
 
 -- A law fits wherever its words make something of a part, and what it makes of one is what the words make of it.
 pub record Exact (f : Node → Option Node) (W : Node → Node → Type 0) : Type 0 where
@@ -118,6 +118,17 @@ t9-exact = record {
       (counts n e 0 (some 1) && counts m f 0 (some 1) && Bool·beq lazy inner && groupFree r) (many 0 (some 1) lazy r) (λ t.
       let (a, b, c, d, o, p) = tests n e 0 (some 1) m f 0 (some 1) (Bool·beq lazy inner) r t in
       (lazy, r, rw (a, b, c, d, ← beq-eq lazy inner o), p, refl))));
+}
+
+pub t10-exact : Exact t10 LoopOnceOfLoops
+t10-exact = record {
+  fits = t10-fits;
+  only = on-many LoopOnceOfLoops _ (λ n e lazy. on-many (λ r. LoopOnceOfLoops (many n e lazy r)) _ (λ m f inner r.
+      ok-when (LoopOnceOfLoops (many n e lazy (many m f inner r)))
+      (counts n e 1 none && counts m f 0 none && not (lazy || inner) && groupFree r) (many 0 none false r) (λ t.
+      let (a, b, c, d, o, p) = tests n e 1 none m f 0 none (not (lazy || inner)) r t in
+      let (u, v) = both-greedy lazy inner o in
+      (r, rw (a, b, c, d, u, v), p, refl))));
 }
 
 -- T6 takes away an alternative that is equal to one that was seen, or to one before it.

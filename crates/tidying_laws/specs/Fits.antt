@@ -17,11 +17,11 @@ use Rattle.tidying_laws.specs.Equal.{same, same-refl}
 use Rattle.meaning.specs.Flat.{Kind, Kind.sequence, Kind.alternation, parts, items, ofAlternatives}
 use Rattle.tidying_laws.specs.Laws.{two, onParts, onAlternatives, isEmpty, isVoid, distinct, possible, impossible}
 use Rattle.tidying_laws.specs.Laws.{firstSet, run, sharedAt, share}
-use Rattle.tidying_laws.specs.Laws.{t1, t2, t3, t4, t5, t6, t7, t8, t9}
+use Rattle.tidying_laws.specs.Laws.{t1, t2, t3, t4, t5, t6, t7, t8, t9, t10}
 use Rattle.tidying_laws.specs.Lists.{any-has}
 use Rattle.tidying_laws.specs.Words.{OnParts, EmptyItem, OnceOrNever, ManyEmpty, ManyAssertion, LoopOfLoops}
 use Rattle.tidying_laws.specs.Words.{EqualAlternative, VoidAlternative, VoidItem, EmptySet, Leads, SameFirst}
-use Rattle.tidying_laws.specs.Words.{OptionOfOption}
+use Rattle.tidying_laws.specs.Words.{OptionOfOption, LoopOnceOfLoops}
 
 module _ {A : Type 0} where
   some-cond : (b : Bool) (o p : Option A) → IsSome o → IsSome p → IsSome (cond b o p)
@@ -69,6 +69,9 @@ t5-fits r q h = rw (h .3, h .4, h .5) tt
 
 pub t9-fits : (r q : Node) → OptionOfOption r q → IsSome (t9 r)
 t9-fits r q h = rw (h .2, h .3, beq-refl (h .0)) tt
+
+pub t10-fits : (r q : Node) → LoopOnceOfLoops r q → IsSome (t10 r)
+t10-fits r q h = rw (h .1, h .2) tt
 
 -- An alternative that is equal to one that was seen, and to one before it.
 later-fits : (seen b m : List Node) (r : Node) → groupFree r ≡ true → any (same r) seen ≡ true

@@ -11,9 +11,9 @@ use Rattle.meaning.specs.Flat.{Kind, Kind.sequence, Kind.alternation, parts, jo
 use Rattle.tidying_laws.specs.Groups.{groups, Positive, groupFree}
 use Rattle.tidying_laws.specs.Alike.{Alike}
 use Rattle.tidying_laws.specs.Measures.{groups-adds}
-use Rattle.tidying_laws.specs.Quantified.{T2-one, T2-none, T3, T4-none, T4-some, T5, T9}
+use Rattle.tidying_laws.specs.Quantified.{T2-one, T2-none, T3, T4-none, T4-some, T5, T9, T10}
 use Rattle.tidying_laws.specs.Words.{OnParts, EmptyItem, OnceOrNever, ManyEmpty, EmptyOrItself, ManyAssertion}
-use Rattle.tidying_laws.specs.Words.{LoopOfLoops, EqualAlternative, EmptySet, SameFirst, OptionOfOption}
+use Rattle.tidying_laws.specs.Words.{LoopOfLoops, EqualAlternative, EmptySet, SameFirst, OptionOfOption, LoopOnceOfLoops}
 use Rattle.tidying_laws.specs.Lists.{AlikeOn, T1, T6, T7, T7-sequence, T8}
 
 -- The words of a law hold.
@@ -59,3 +59,6 @@ t8-holds = on-parts alternation SameFirst T8
 
 pub t9-holds : Holds OptionOfOption
 t9-holds r q h p = rw (h .2, h .4) (T9 (h .0) (h .1) (h .3))
+
+pub t10-holds : Holds LoopOnceOfLoops
+t10-holds r q h p = rw (h .1, h .3) (T10 (h .0) (h .2))

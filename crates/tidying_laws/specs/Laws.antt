@@ -1,5 +1,5 @@
--- The tidier's laws T1 to T9: what each makes of a part that it fits. Definitions only.
-use mathlib.Core.Bool.{Bool, true, false, cond, _&&_, Bool·beq}
+-- The tidier's laws T1 to T10: what each makes of a part that it fits. Definitions only.
+use mathlib.Core.Bool.{Bool, true, false, cond, not, _&&_, _||_, Bool·beq}
 use mathlib.Core.Option.{Option, none, some, Option·map}
 use mathlib.Core.List.{List, [], _∷_}
 use Prim.Native.Nat.{ℕ}
@@ -167,3 +167,8 @@ t8 = onAlternatives share
 abbrev pub t9 : Node → Option Node
 t9 = onMany (λ n e lazy. onMany (λ m f inner r.
     when (counts n e 0 (some 1) && counts m f 0 (some 1) && Bool·beq lazy inner && groupFree r) (many 0 (some 1) lazy r)))
+
+-- T10: (?:r*)+ is r*, both greedy.
+abbrev pub t10 : Node → Option Node
+t10 = onMany (λ n e lazy. onMany (λ m f inner r.
+    when (counts n e 1 none && counts m f 0 none && not (lazy || inner) && groupFree r) (many 0 none false r)))

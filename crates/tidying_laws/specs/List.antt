@@ -3,20 +3,20 @@
 use mathlib.Core.Option.{Option}
 use mathlib.Core.List.{List, [], _∷_, map}
 use Rattle.meaning.specs.Node.{Node}
-use Rattle.tidying_laws.specs.Laws.{t1, t2, t3, t4, t5, t6, t7, t8, t9}
+use Rattle.tidying_laws.specs.Laws.{t1, t2, t3, t4, t5, t6, t7, t8, t9, t10}
 use Rattle.meaning.specs.Flat.{Kind.sequence, Kind.alternation}
 use Rattle.tidying_laws.specs.Words.{OnParts, EmptyItem, OnceOrNever, ManyEmpty, ManyAssertion, LoopOfLoops}
-use Rattle.tidying_laws.specs.Words.{EqualAlternative, EmptySet, SameFirst, OptionOfOption}
+use Rattle.tidying_laws.specs.Words.{EqualAlternative, EmptySet, SameFirst, OptionOfOption, LoopOnceOfLoops}
 use Rattle.meaning.specs.All.{All}
 use Rattle.tidying_laws.specs.Kept.{Ok, Kept}
 use Rattle.tidying_laws.specs.Alternatives.{t6-kept}
 use Rattle.tidying_laws.specs.Shared.{t8-kept}
 use Rattle.tidying_laws.specs.Items.{t1-kept, t7-kept}
-use Rattle.tidying_laws.specs.Quantifiers.{t2-kept, t3-kept, t4-kept, t5-kept, t9-kept}
+use Rattle.tidying_laws.specs.Quantifiers.{t2-kept, t3-kept, t4-kept, t5-kept, t9-kept, t10-kept}
 use Rattle.tidying_laws.specs.Holds.{Holds, t1-holds, t2-holds, t3-holds, t4-holds, t5-holds, t6-holds, t7-holds}
-use Rattle.tidying_laws.specs.Holds.{t8-holds, t9-holds}
+use Rattle.tidying_laws.specs.Holds.{t8-holds, t9-holds, t10-holds}
 use Rattle.tidying_laws.specs.Exact.{Exact, t1-exact, t2-exact, t3-exact, t4-exact, t5-exact, t6-exact, t7-exact}
-use Rattle.tidying_laws.specs.Exact.{t8-exact, t9-exact}
+use Rattle.tidying_laws.specs.Exact.{t8-exact, t9-exact, t10-exact}
 
 -- A law: what it makes of a part, the outline's words for it, that it makes exactly that, that those hold, and what it keeps.
 pub record Law : Type 1 where
@@ -41,6 +41,7 @@ list =
     ∷ law t7 EmptySet t7-exact t7-holds t7-kept
     ∷ law t8 (OnParts alternation SameFirst) t8-exact t8-holds t8-kept
     ∷ law t9 OptionOfOption t9-exact t9-holds t9-kept
+    ∷ law t10 LoopOnceOfLoops t10-exact t10-holds t10-kept
     ∷ []
 
 -- What each law makes; the words of each; and to which parts those apply: to such as become something.

@@ -1,4 +1,4 @@
--- The laws of a quantifier over a pattern with no group: T2, T3, T4, T5, T9.
+-- The laws of a quantifier over a pattern with no group: T2, T3, T4, T5, T9, T10.
 use mathlib.Core.Path.{_≡_, refl, sym, ap, _∙_}
 use mathlib.Core.Bool.{Bool, true, false, cond, false≢true}
 use mathlib.Core.Option.{Option, none, some}
@@ -192,6 +192,27 @@ T5 inner outer ok r h = record {
         (λ y hy. turns-reach w inner f hf (size w - y .pos) y hy) (λ B c y hy. rw (free-fresh r h y))
         outer (size w - x .pos) B c x hx
         ∙ nested w f hf B c inner outer ok (size w - x .pos) x hx (omega arith);
+  };
+}
+
+-- T10: a greedy loop of greedy loops that turns at least once is one loop: a loop, and after it a loop of loops.
+pub T10 : (r : Node) → groupFree r ≡ true → Alike (many 1 none false (many 0 none false r)) (many 0 none false r)
+unfolding groups results forced lo hi
+T10 r h = record {
+  numbers = refl;
+  low = refl;
+  like = record {
+    order = λ w fair B c x hx.
+        let f : State → List State = λ y. results w r (fresh r y) in
+        let hf : Reaches w f = body-reach w r (reach w r) in
+        let s : State → List State = star w f hf false in
+        let hs : Reaches w s = λ y hy. turns-reach w false f hf (size w - y .pos) y hy in
+        rw (first-concatMap, free-fresh r h x) (
+        first-cong (Reach w x) _ (λ y. firstSome c (star w f hf false y)) (s x) (hs x hx)
+        (λ y l. agree-turns w (λ y. turns false f (size w - y .pos) (fresh r y)) s hs
+        (λ B c z hz. rw (free-fresh r h z)) false (size w - y .pos) B c y (l .stop)
+        ∙ nested w f hf B c false false refl (size w - y .pos) y (l .stop) (omega arith))
+        ∙ after w f hf B c false false refl (size w - x .pos) x hx (omega arith));
   };
 }
 

@@ -1,6 +1,6 @@
--- T2, T3, T4, T5 and T9 keep what a law must: laws on a quantifier.
+-- T2, T3, T4, T5, T9 and T10 keep what a law must: laws on a quantifier.
 use mathlib.Core.Path.{_≡_, refl, ap, subst⁻¹}
-use mathlib.Core.Bool.{Bool, true, cond, _&&_, Bool·beq, false≢true}
+use mathlib.Core.Bool.{Bool, true, false, cond, not, _&&_, _||_, Bool·beq, false≢true}
 use mathlib.Core.Option.{Option, none, some}
 use Prim.Native.Nat.{ℕ, zero, suc, _≤_, _<_}
 use native.Mathlib.Omega.{arith}
@@ -10,12 +10,12 @@ use Rattle.meaning.specs.Node.{Node, Node.empty, Node.bset, Node.assert, Node.g
 use Rattle.machine.specs.Layout.{sizeOf}
 use Rattle.tidying_laws.specs.Groups.{groupFree}
 use Rattle.tidying_laws.specs.Alike.{Alike}
-use Rattle.tidying_laws.specs.Quantified.{absorbed, T2-one, T2-none, T3, T4-none, T4-some, T5, T9}
+use Rattle.tidying_laws.specs.Quantified.{absorbed, T2-one, T2-none, T3, T4-none, T4-some, T5, T9, T10}
 use Rattle.tidying_laws.specs.Equal.{same-eq}
 use Rattle.meaning.specs.Flat.{Kind.sequence, Flat}
 use Rattle.tidying_laws.specs.Measures.{weight, weighs}
 use Rattle.tidying_laws.specs.Charge.{extra, charge, cost, extra-one, light}
-use Rattle.tidying_laws.specs.Laws.{when, isEmpty, onMany, onAssert, sameMore, counts, t2, t3, t4, t5, t9}
+use Rattle.tidying_laws.specs.Laws.{when, isEmpty, onMany, onAssert, sameMore, counts, t2, t3, t4, t5, t9, t10}
 use Rattle.tidying_laws.specs.Kept.{Ok, ok-when, ok-else, Kept}
 
 -- Counts that are these.
@@ -117,3 +117,18 @@ t9-kept = on-many Kept _ (λ n e lazy. on-many (λ p q. Kept (many n e lazy p) q
     (counts n e 0 (some 1) && counts m f 0 (some 1) && Bool·beq lazy inner && groupFree r) (many 0 (some 1) lazy r) (λ t.
     let (a, b, c, d, o, p) = tests n e 0 (some 1) m f 0 (some 1) (Bool·beq lazy inner) r t in
     rw (a, b, c, d, ← beq-eq lazy inner o) (kept (T9 lazy r p) (λ g. g) (λ g. g .1) (omega arith)))))
+
+-- Neither of two is lazy.
+pub both-greedy : (a b : Bool) → not (a || b) ≡ true → (a ≡ false) × (b ≡ false)
+both-greedy true b e = absurd (false≢true e)
+both-greedy false true e = absurd (false≢true e)
+both-greedy false false e = (refl, refl)
+
+pub t10-kept : (r : Node) → Ok (Kept r) (t10 r)
+unfolding sizeOf weight charge extra
+t10-kept = on-many Kept _ (λ n e lazy. on-many (λ p q. Kept (many n e lazy p) q) _ (λ m f inner r.
+    ok-when (Kept (many n e lazy (many m f inner r)))
+    (counts n e 1 none && counts m f 0 none && not (lazy || inner) && groupFree r) (many 0 none false r) (λ t.
+    let (a, b, c, d, o, p) = tests n e 1 none m f 0 none (not (lazy || inner)) r t in
+    let (u, v) = both-greedy lazy inner o in
+    rw (a, b, c, d, u, v) (kept (T10 r p) (λ g. g) (λ g. g .1) (omega arith)))))

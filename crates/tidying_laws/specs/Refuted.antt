@@ -69,6 +69,20 @@ T5-not k =
     aab (omega arith) 1 0 (omega arith) _ _ loop-of-loops one-loop (λ e. let z : _≡_ {A = ℕ} 2 1 = cc in omega arith)
     (alike-seq k (alike-refl (group 1 (alt (seq a b) b))))
 
+-- Nor is (?:r*)+? that, by the same case: T10 asks that both are greedy. And (?:r*)+ is not r+: on "" it gives 0,0 and r+ gives
+-- none.
+pub T10-not-lazy : Alike (many 1 none true (star false a)) (star true a) → ⊥
+unfolding matchAt matcher repeatMatcher fits has bit unset opened closed lo hi cleared wiped
+T10-not-lazy k =
+    differ (tail (many 1 none true (star false a))) (tail (star true a)) 2 (1, refl, (refl, (2, (2, refl, refl), refl)))
+    aab (omega arith) 1 0 (omega arith) (some (some 0 ∷ some 3 ∷ some 2 ∷ some 3 ∷ [])) _ refl one-loop
+    (λ e. let z : _≡_ {A = ℕ} 2 1 = cc in omega arith) (alike-seq k (alike-refl (group 1 (alt (seq a b) b))))
+
+pub T10-not-once : Alike (many 1 none false (star false a)) (many 1 none false a) → ⊥
+unfolding matchAt matcher repeatMatcher fits has bit unset opened closed lo hi cleared wiped
+T10-not-once = differ (many 1 none false (star false a)) (many 1 none false a) 1 refl [] tt 0 0 (omega arith)
+    (some (some 0 ∷ some 0 ∷ [])) none refl refl (λ e. let z : _≡_ {A = ℕ} 0 1 = cc in omega arith)
+
 -- r? is not r: on "" it gives 0,0 and r gives none. It is not empty: on "a" it gives 0,1 and empty gives 0,0.
 pub option-not : Alike (option false a) a → ⊥
 unfolding matchAt matcher repeatMatcher fits has bit unset opened closed lo hi cleared wiped

@@ -92,6 +92,10 @@ table =
     ∷ (option false (option false a), option false a)
     ∷ (option true (option true a), option true a)
     ∷ (option true (option false (option false a)), option true (option false a))
+    -- (?:a*)+, (?:(?:a*)+)*: T10, and then T5; (?:(?:a*)+)+: T10 twice
+    ∷ (many 1 none false (star false a), star false a)
+    ∷ (star false (many 1 none false (star false a)), star false a)
+    ∷ (many 1 none false (many 1 none false (star false a)), star false a)
     ∷ []
 
 vectors : map (λ t. tidy (t .0)) table ≡ map (λ t. t .1) table
@@ -101,11 +105,18 @@ vectors = refl
 -- Patterns that no law fits.
 abbrev tidied : List Node
 tidied =
-    -- (?:a?)??, (?:a??)?, (?:a*)*? and (?:a*)+
+    -- (?:a?)??, (?:a??)? and (?:a*)*?
     option true (option false a)
     ∷ option false (option true a)
     ∷ star true (star false a)
-    ∷ many 1 none false (star false a)
+    -- (?:a*?)+, (?:a*)+?, (?:a*?)+?, (?:a+)+, (?:a*){2,}, (?:a*){1,2} and (?:(a)*)+
+    ∷ many 1 none false (star true a)
+    ∷ many 1 none true (star false a)
+    ∷ many 1 none true (star true a)
+    ∷ many 1 none false (many 1 none false a)
+    ∷ many 2 none false (star false a)
+    ∷ many 1 (some 1) false (star false a)
+    ∷ many 1 none false (star false (group 1 a))
     -- a?, a+, a{2} and []*
     ∷ option false a
     ∷ many 1 none false a

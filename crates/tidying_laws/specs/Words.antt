@@ -2,7 +2,7 @@
 -- alternatives they are lists, l and m. Definitions only.
 use mathlib.Core.Path.{_≡_}
 use mathlib.Core.Logic.{_⊎_}
-use mathlib.Core.Bool.{Bool, true}
+use mathlib.Core.Bool.{Bool, true, false}
 use mathlib.Core.Option.{Option, none, some}
 use mathlib.Core.List.{List, [], _∷_, _++_, map}
 use Prim.Native.Nat.{ℕ, _≤_}
@@ -99,3 +99,8 @@ SameFirst l m = (a : List Node) × (b : List Node) × (p : Node) × (q : Node) �
 abbrev pub OptionOfOption : Node → Node → Type 0
 OptionOfOption r q = (lazy : Bool) × (p : Node) × (r ≡ many 0 (some 1) lazy (many 0 (some 1) lazy p)) × (groupFree p ≡ true)
     × (q ≡ many 0 (some 1) lazy p)
+
+-- T10: (?:p*)+ is p*, both greedy.
+abbrev pub LoopOnceOfLoops : Node → Node → Type 0
+LoopOnceOfLoops r q = (p : Node) × (r ≡ many 1 none false (many 0 none false p)) × (groupFree p ≡ true)
+    × (q ≡ many 0 none false p)

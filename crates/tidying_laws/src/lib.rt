@@ -17,4 +17,6 @@ pub const T8: u32 = 8;
 
 pub const T9: u32 = 9;
 
-pub const LAWS: u32 = T9;
+pub const T10: u32 = 10;
+
+pub const LAWS: u32 = T10;

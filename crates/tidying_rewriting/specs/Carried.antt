@@ -8,7 +8,7 @@ use Rattle.tidying_laws.specs.List.{laws}
 use Rattle.tidying_laws.specs.ByNumber.{nothing, lawOf, IsLaw, is-law}
 use Rattle.tidying_rewriting.specs.Rewriting.{Rule, SomeFitting, Rewrites, Narrower, narrower-same, some-wide}
 use Rattle.tidying_rewriting.specs.Rewriting.{rewrites-narrow}
-use Rattle.tidying_rewriting.specs.Quantifiers.{t2-leaves, t3-leaves, t4-leaves, t5-leaves, t9-leaves}
+use Rattle.tidying_rewriting.specs.Quantifiers.{t2-leaves, t3-leaves, t4-leaves, t5-leaves, t9-leaves, t10-leaves}
 use Rattle.tidying_rewriting.specs.Dropping.{t6-drops}
 
 -- A law, and the rule that is carried out for it, which does all that the law does.
@@ -23,7 +23,7 @@ by {law} {wide} h = record { law = law; wide = wide; narrow = h }
 pub itself : (law : Rule) → Narrower law law
 itself law = narrower-same (λ x. refl)
 
--- T2, T3 and T4 take a quantifier away, T5 and T9 the inner one of two, and T6 an alternative that equals an earlier one.
+-- T2, T3, T4 and T10 take a quantifier away, T5 and T9 the inner one of two, and T6 an alternative that equals an earlier one.
 abbrev pub carriers : List Carrier
 carriers =
     by (itself t1)
@@ -35,6 +35,7 @@ carriers =
     ∷ by (itself t7)
     ∷ by (itself t8)
     ∷ by t9-leaves
+    ∷ by t10-leaves
     ∷ []
 
 unfoldable pub carried : ℕ → Rule

@@ -1,6 +1,6 @@
--- T2 to T5 and T9, laws for a quantifier: its own record goes, or the one of the quantifier inside it, or it becomes empty.
+-- T2 to T5, T9 and T10, laws for a quantifier: its own record goes, or the one of the quantifier inside it, or it becomes empty.
 use mathlib.Core.Path.{_≡_, refl, ap, _∙_}
-use mathlib.Core.Bool.{Bool, true, false, cond, _&&_, Bool·beq}
+use mathlib.Core.Bool.{Bool, true, false, cond, not, _&&_, _||_, Bool·beq}
 use mathlib.Core.Option.{Option, none, some}
 use mathlib.Core.List.{List, [], _∷_, _++_, append-assoc, append-nil}
 use Prim.Native.Nat.{ℕ}
@@ -14,9 +14,9 @@ use Rattle.table.specs.Laws.{inner, lastOf}
 use Rattle.tidying_laws.specs.Groups.{groupFree}
 use Rattle.tidying_laws.specs.Equal.{same-eq}
 use Rattle.tidying_laws.specs.Quantified.{absorbed}
-use Rattle.tidying_laws.specs.Laws.{when, onMany, counts, isEmpty, t2, t3, t4, t5, t9}
+use Rattle.tidying_laws.specs.Laws.{when, onMany, counts, isEmpty, t2, t3, t4, t5, t9, t10}
 use Rattle.tidying_laws.specs.Kept.{Ok, ok-when, ok-else}
-use Rattle.tidying_laws.specs.Quantifiers.{counts-eq, tests, on-many, on-assert}
+use Rattle.tidying_laws.specs.Quantifiers.{counts-eq, tests, on-many, on-assert, both-greedy}
 use Rattle.tidying_shapes.specs.Skeleton.{Token, token, skeletonIn, skeleton}
 use Rattle.tidying_rewriting.specs.Rewriting.{Rule, Narrower}
 
@@ -30,7 +30,7 @@ unnested = onMany (λ n e lazy. onMany (λ m f inner r. some (many n e lazy r)))
 abbrev Leaves : Node → Node → Type 0
 Leaves x y = unquantified x ≡ some y
 
--- T2, T3 and T4 take the quantifier away.
+-- T2, T3, T4 and T10 take the quantifier away.
 pub t2-leaves : Narrower t2 unquantified
 t2-leaves = record {
   by = on-many Leaves _ (λ n e lazy r. let P : Node → Type 0 = Leaves (many n e lazy r) in
@@ -55,6 +55,15 @@ t3-leaves = record {
 pub t4-leaves : Narrower t4 unquantified
 t4-leaves = record {
   by = on-many Leaves _ (λ n e lazy. on-assert (λ r. Leaves (many n e lazy r)) _ (λ a. refl));
+}
+
+pub t10-leaves : Narrower t10 unquantified
+t10-leaves = record {
+  by = on-many Leaves _ (λ n e lazy. on-many (λ q. Leaves (many n e lazy q)) _ (λ m f inner r.
+      ok-when (Leaves (many n e lazy (many m f inner r)))
+      (counts n e 1 none && counts m f 0 none && not (lazy || inner) && groupFree r) (many 0 none false r) (λ t.
+      let (a, b, c, d, o, p) = tests n e 1 none m f 0 none (not (lazy || inner)) r t in
+      rw (a, c, d, both-greedy lazy inner o .1))));
 }
 
 -- T5 and T9 take the inner one away: the counts and the laziness of the result are the outer one's.

@@ -86,7 +86,7 @@ pub fn drop_empty(table: &mut [u32], n: usize, top: usize) -> usize
     rejoin(table, count, top + count - n, kept)
 }
 
-// T2, T3 and T4: a quantifier with a minimum of 0 becomes empty, and any other its part. Asked: a quantifier stands there.
+// T2, T3, T4 and T10: a quantifier with a minimum of 0 becomes empty, and any other its part. Asked: a quantifier stands there.
 pub fn unquantify(table: &mut [u32], n: usize, top: usize) -> usize
     requires { ⌜ SomeFitting unquantified (now table) n top ⌝ }
     ensures { λ r. ⌜ Rewrites unquantified (now (table .entry)) (now (table .exit)) n top r ⌝ }

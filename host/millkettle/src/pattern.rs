@@ -60,7 +60,7 @@ impl Pattern {
         Pattern::compiled_by((raw::compile, words::compile), pattern)
     }
 
-    /// Tidies a pattern by the laws T1 to T9 and compiles what is left: the same answers from no
+    /// Tidies a pattern by the laws T1 to T10 and compiles what is left: the same answers from no
     /// more rows.
     ///
     /// ```

@@ -8,7 +8,7 @@
 //! | module | from | to |
 //! |---|---|---|
 //! | [`reader`] | pattern bytes | a tree, or refusals 1 to 14 |
-//! | [`tidier`] | a tree | the tree that laws T1 to T9 leave |
+//! | [`tidier`] | a tree | the tree that laws T1 to T10 leave |
 //! | [`rows`] | a tree | rows and code words, refusals 15, 16; the check 20 |
 //! | [`compile`] | pattern bytes | code words, plain or tidied |
 //! | [`steps`] | code words, text | the outline's step machine, refusals 20 to 24 |

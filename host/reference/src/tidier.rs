@@ -1,4 +1,4 @@
-//! The tidier's laws, T1 to T9.
+//! The tidier's laws, T1 to T10.
 //!
 //! "Each part comes after the parts inside it, left to right, its lowest law
 //! first, and from the beginning again until none fits: the search for a law
@@ -8,14 +8,14 @@ use crate::node::Node;
 use crate::sets::{self, Set};
 
 /// The number of laws.
-pub const LAWS: u32 = 9;
+pub const LAWS: u32 = 10;
 
 /// What a law makes of a tree's part: where, which law, and what comes there.
 #[derive(Clone, Debug, PartialEq, Eq)]
 pub struct Found {
     /// The way from the whole to the part: child after child.
     pub part: Vec<usize>,
-    /// 1 to 9.
+    /// 1 to 10.
     pub law: u32,
     /// What the part becomes.
     pub becomes: Node,
@@ -97,6 +97,7 @@ pub fn apply(law: u32, node: &Node) -> Option<Node> {
         7 => t7(node),
         8 => t8(node),
         9 => t9(node),
+        10 => t10(node),
         _ => None,
     }
 }
@@ -151,9 +152,11 @@ fn quantified(node: &Node, counts: (u32, Option<u32>)) -> Option<(bool, &Node)> 
     }
 }
 
+/// The counts of `*`.
+const STAR: (u32, Option<u32>) = (0, None);
+
 /// T5: "`(?:r*)*` and `(?:r*?)*` are `r*`; `(?:r*?)*?` is `r*?`."
 fn t5(node: &Node) -> Option<Node> {
-    const STAR: (u32, Option<u32>) = (0, None);
     let (outer_lazy, inside) = quantified(node, STAR)?;
     let (inner_lazy, r) = quantified(inside, STAR)?;
     let fits = !outer_lazy || inner_lazy;
@@ -234,6 +237,14 @@ fn t9(node: &Node) -> Option<Node> {
     let (outer_lazy, inside) = quantified(node, OPTION)?;
     let (inner_lazy, _) = quantified(inside, OPTION)?;
     (outer_lazy == inner_lazy).then(|| inside.clone())
+}
+
+/// T10: "`(?:r*)+` is `r*`", both greedy as they are written there.
+fn t10(node: &Node) -> Option<Node> {
+    const PLUS: (u32, Option<u32>) = (1, None);
+    let (outer_lazy, inside) = quantified(node, PLUS)?;
+    let (inner_lazy, _) = quantified(inside, STAR)?;
+    (!outer_lazy && !inner_lazy).then(|| inside.clone())
 }
 
 /// The parts without the one at this index.

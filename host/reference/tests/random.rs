@@ -7,7 +7,7 @@ use reference::generate::*;
 use reference::matcher::{memory, standard};
 use reference::reader::{read, Reading};
 use reference::refusal::Refusal;
-use reference::rows::{check, program, size, Program};
+use reference::rows::{check, program, size, Program, Row, MATCH_ROW};
 use reference::steps::{steps, Answer, Entry};
 use reference::tidier::{find, tidy};
 
@@ -117,6 +117,50 @@ fn long_texts() {
             assert_eq!(one.spans, two.spans, "{}", bytes.escape_ascii());
         }
     }
+}
+
+/// How many rows stand behind a Begin, up to and with its End, outside the
+/// prefix.
+fn inner_rows(program: &Program) -> usize {
+    let mut open = 0usize;
+    let mut inner = 0;
+    for row in &program.rows()[MATCH_ROW as usize..] {
+        inner += usize::from(open > 0);
+        match row {
+            Row::Begin => open += 1,
+            Row::End(_) => open -= 1,
+            _ => {}
+        }
+    }
+    inner
+}
+
+/// At a position compiled code executes each row at most once, and inner rows
+/// once more.
+#[test]
+fn compiled_code_keeps_within_its_bound() {
+    let mut random = Random::new(7);
+    let (mut straight, mut looped) = (0, 0);
+    for _ in 0..3_000 {
+        let bytes = pattern(&mut random);
+        for program in [compile(&bytes, ROOM, ROOM), compile_tidied(&bytes, ROOM, ROOM)] {
+            let program = match program {
+                Ok(program) => program,
+                _ => continue,
+            };
+            let inner = inner_rows(&program);
+            *(if inner == 0 { &mut straight } else { &mut looped }) += 1;
+            let text = text(&mut random, &bytes);
+            let start = random.below(text.len() + 1);
+            let positions = text.len() - start + 1;
+            for entry in ENTRIES {
+                let answer = answer(&program, &text, start, entry);
+                let most = (program.n() + inner) * positions;
+                assert!(answer.count <= most as u64, "{}", bytes.escape_ascii());
+            }
+        }
+    }
+    assert!(straight > 500 && looped > 500, "{straight} {looped}");
 }
 
 #[test]

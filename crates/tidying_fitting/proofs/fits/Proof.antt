@@ -20,6 +20,7 @@ fits-spec =
     (λ c κs. search needs)
     (λ c κs. search needs)
     (λ c κs. search needs)
+    (λ c κs. search needs)
     (λ c. as-law 1 (c .before .match .keys1) (c .empty-item .ensures))
     (λ c. as-law 2 (c .before .match .keys2) (c .once-or-never .ensures))
     (λ c. as-law 3 (c .before .match .keys3) (c .quantified-empty .ensures))
@@ -29,4 +30,5 @@ fits-spec =
     (λ c. as-law 7 (c .before .match .keys7) (c .void-part .ensures))
     (λ c. as-law 8 (c .before .match .keys8) (c .shared-first .ensures))
     (λ c. as-law 9 (c .before .match .keys9) (c .option-of-option .ensures))
+    (λ c. as-law 10 (c .before .match .keys10) (c .loop-once-of-loop .ensures))
     (λ c. as-none (c .before .before .args .law) (none-of lawCount _ (c .match .rest))))

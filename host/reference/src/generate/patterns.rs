@@ -117,7 +117,7 @@ impl Writer<'_> {
         }
     }
 
-    /// `(?:r*)*` and the like, which the laws T5 and T9 look for; now and then
+    /// `(?:r*)*` and the like, which the laws T5, T9 and T10 look for; now and then
     /// before a group that shows how many turns were taken.
     fn twice_quantified(&mut self, depth: usize) {
         self.out.extend(b"(?:");

@@ -13,17 +13,17 @@ use Rattle.tidying_fitting.proofs.quantifiers.loop_of_loop.Statement.{s
 use Rattle.tidying_fitting.proofs.quantifiers.loop_of_loop.Tie as tie
 
 returns : tie.Need-returns
-returns c = first-fails (fits t5) (isNested noMaximum) (lazyWords leb) t5-words ((c .before .nested) .ensures)
+returns c = first-fails (fits t5) (isNested 0 noMaximum) (lazyWords leb) t5-words ((c .before .nested) .ensures)
     (not-true _ (c .if1 .taken))
 
 own-requires-2 : tie.Need-own-requires-2
-own-requires-2 c κs = part-asked (quantified-passed (λ r q. nestedIn noMaximum (ownOf r) (ownOf q))
+own-requires-2 c κs = part-asked (quantified-passed (λ r q. nestedIn 0 noMaximum (ownOf r) (ownOf q))
     ((c .before .before .nested) .ensures) (not-false _ (c .before .if1 .left))) ((c .before .before .before .before) .pre)
 
 returns-2 : tie.Need-returns-2
-returns-2 c = first-passes (fits t5) (isNested noMaximum) (lazyWords leb) t5-words
+returns-2 c = first-passes (fits t5) (isNested 0 noMaximum) (lazyWords leb) t5-words
     ((c .before .before .before .before .before .nested) .ensures) (not-false _ (c .before .before .before .before .if1 .left))
-    (on-quantifier (λ o i. leb (o .lazy) (i .lazy)) (quantified-passed (λ r q. nestedIn noMaximum (ownOf r) (ownOf q))
+    (on-quantifier (λ o i. leb (o .lazy) (i .lazy)) (quantified-passed (λ r q. nestedIn 0 noMaximum (ownOf r) (ownOf q))
     ((c .before .before .before .before .before .nested) .ensures)
     (not-false _ (c .before .before .before .before .if1 .left)))
     ((c .before .before .before .own) .ensures) ((c .before .before .own2) .ensures) refl)

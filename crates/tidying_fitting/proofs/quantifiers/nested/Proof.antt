@@ -9,19 +9,22 @@ use Rattle.tidying_fitting.proofs.quantifiers.nested.Statement.{stateme
 use Rattle.tidying_fitting.proofs.quantifiers.nested.Tie as tie
 
 returns : tie.Need-returns
-returns c = off-ranged ((c .before .before .before .before) .args .most) ((c .before .before .own) .ensures)
+returns c = let a = (c .before .before .before .before) .args in
+    off-ranged (a .least) (a .most) ((c .before .before .own) .ensures)
     (sym ((c .before .ranges) .ensures) ∙ not-true _ (c .if1 .taken))
 
 own-requires-2 : tie.Need-own-requires-2
-own-requires-2 c κs = part-asked (quantified-ranged ((c .before .before .before .before) .args .most)
+own-requires-2 c κs = let a = (c .before .before .before .before) .args in
+    part-asked (quantified-ranged (a .least) (a .most)
     ((c .before .before .own) .ensures) (sym ((c .before .ranges) .ensures) ∙ not-false _ (c .if1 .left)))
     ((c .before .before .before .before) .pre)
 
 returns-2 : tie.Need-returns-2
 returns-2 c = let outer = sym ((c .before .before .before .before .ranges) .ensures) ∙ not-false _
     (c .before .before .before .if1 .left) in
-    on-quantifier (nestedIn ((c .before .before .before .before .before .before .before) .args .most))
-    (quantified-ranged ((c .before .before .before .before .before .before .before) .args .most)
+    let a = (c .before .before .before .before .before .before .before) .args in
+    on-quantifier (nestedIn (a .least) (a .most))
+    (quantified-ranged (a .least) (a .most)
     ((c .before .before .before .before .before .own) .ensures) outer)
     ((c .before .before .before .before .before .own) .ensures) ((c .before .before .own2) .ensures)
     (rw (outer, sym ((c .before .ranges2) .ensures) ∙ not-true _ (c .if2 .taken)))
@@ -29,8 +32,9 @@ returns-2 c = let outer = sym ((c .before .before .before .before .ranges) .ensu
 returns-3 : tie.Need-returns-3
 returns-3 c = let outer = sym ((c .before .before .before .before .before .ranges) .ensures) ∙ not-false _
     (c .before .before .before .before .if1 .left) in
-    on-quantifier (nestedIn ((c .before .before .before .before .before .before .before .before) .args .most))
-    (quantified-ranged ((c .before .before .before .before .before .before .before .before) .args .most)
+    let a = (c .before .before .before .before .before .before .before .before) .args in
+    on-quantifier (nestedIn (a .least) (a .most))
+    (quantified-ranged (a .least) (a .most)
     ((c .before .before .before .before .before .before .own) .ensures) outer)
     ((c .before .before .before .before .before .before .own) .ensures) ((c .before .before .before .own2) .ensures)
     (rw (outer, sym ((c .before .before .ranges2) .ensures) ∙ not-false _ (c .before .if2 .left)))

@@ -12,17 +12,17 @@ use Rattle.tidying_fitting.proofs.quantifiers.option_of_option.Statemen
 use Rattle.tidying_fitting.proofs.quantifiers.option_of_option.Tie as tie
 
 returns : tie.Need-returns
-returns c = first-fails (fits t9) (isNested 1) (lazyWords eqb) t9-words ((c .before .nested) .ensures)
+returns c = first-fails (fits t9) (isNested 0 1) (lazyWords eqb) t9-words ((c .before .nested) .ensures)
     (not-true _ (c .if1 .taken))
 
 own-requires-2 : tie.Need-own-requires-2
-own-requires-2 c κs = part-asked (quantified-passed (λ r q. nestedIn 1 (ownOf r) (ownOf q))
+own-requires-2 c κs = part-asked (quantified-passed (λ r q. nestedIn 0 1 (ownOf r) (ownOf q))
     ((c .before .before .nested) .ensures) (not-false _ (c .before .if1 .left))) ((c .before .before .before .before) .pre)
 
 returns-2 : tie.Need-returns-2
-returns-2 c = first-passes (fits t9) (isNested 1) (lazyWords eqb) t9-words
+returns-2 c = first-passes (fits t9) (isNested 0 1) (lazyWords eqb) t9-words
     ((c .before .before .before .before .before .nested) .ensures) (not-false _ (c .before .before .before .before .if1 .left))
-    (on-quantifier (λ o i. eqb (o .lazy) (i .lazy)) (quantified-passed (λ r q. nestedIn 1 (ownOf r) (ownOf q))
+    (on-quantifier (λ o i. eqb (o .lazy) (i .lazy)) (quantified-passed (λ r q. nestedIn 0 1 (ownOf r) (ownOf q))
     ((c .before .before .before .before .before .nested) .ensures)
     (not-false _ (c .before .before .before .before .if1 .left)))
     ((c .before .before .before .own) .ensures) ((c .before .before .own2) .ensures) refl)
