@@ -140,6 +140,24 @@ millkettle_field millkettle_read_field(const uint8_t *text, size_t text_len, int
  * nor does a value that is no number. */
 millkettle_passed millkettle_pass(double low, double high, double value);
 
+/* The longest text that the second engine takes, and the workspace words that it needs for a text of so many bytes. */
+#define MILLKETTLE_SECOND_TEXT_BYTES 4096
+#define MILLKETTLE_SECOND_WORDS(rows, groups, text_len) \
+    ((size_t)(rows) * (4 * (size_t)(groups) + 10) * ((size_t)(text_len) + 1) + 2 * ((size_t)(groups) + 1))
+
+/* A second opinion on millkettle_match, by a plain backtracking matcher: the same answer and registers; the count is its
+ * own. Code, registers and workspace are lent as words, in this machine's own order, with lengths in words. Not refused,
+ * the first 2 * (groups + 1) registers are written and later ones stay, and workspace words behind those needed stay.
+ * Refused, all stay: 21 refuses texts over 4,096 bytes, 24 fewer words than MILLKETTLE_SECOND_WORDS. */
+millkettle_ran millkettle_second_match(const uint32_t *code, size_t code_len, const uint8_t *text, size_t text_len,
+                                       size_t start, int32_t *registers, size_t registers_len, uint32_t *workspace,
+                                       size_t workspace_len);
+
+/* The same for the first position from start on at which the pattern matches. */
+millkettle_ran millkettle_second_search(const uint32_t *code, size_t code_len, const uint8_t *text, size_t text_len,
+                                        size_t start, int32_t *registers, size_t registers_len, uint32_t *workspace,
+                                        size_t workspace_len);
+
 #ifdef __cplusplus
 }
 #endif

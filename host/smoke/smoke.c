@@ -1,6 +1,7 @@
 /* A call of each kind from C: that the header's structs, sizes and bytes are the archive's. Writes nothing and ends with 0 if all
  * holds; else says what does not. The lines whose answers are known are asked from Rust. */
 #include "../millkettle.h"
+#include <string.h>
 
 int printf(const char *format, ...);
 
@@ -121,6 +122,17 @@ int main(void) {
     p = millkettle_pass(-40.0, -50.0, -45.0);
     expect(p.number == 0 && p.passes == 0, "a lower limit above the upper passes nothing");
     expect(millkettle_pass(none, 0.0, 0.0).number == 29 && millkettle_pass(0.0, none, 0.0).number == 29, "no number: 29");
+
+    c = compile("(a*)b");
+    static uint32_t words[12 * 32], work[14 * 32 * 6 + 4];
+    static int32_t spans[5] = {7, 7, 7, 7, 7};
+    memcpy(words, code, 48 * (c.rows + 1));
+    size_t needed = MILLKETTLE_SECOND_WORDS(c.rows, c.groups, 5);
+    r = millkettle_second_search(words, 12 * (c.rows + 1), (const uint8_t *)"caabd", 5, 0, spans, 5, work, needed - 1);
+    expect(r.number == 24 && spans[0] == 7, "the second engine with a word too few: 24");
+    r = millkettle_second_search(words, 12 * (c.rows + 1), (const uint8_t *)"caabd", 5, 0, spans, 5, work, needed);
+    expect(r.number == 0 && r.found == 1 && spans[0] == 1 && spans[1] == 4 && spans[2] == 1 && spans[3] == 3, "1,4; 1,3");
+    expect(spans[4] == 7, "later registers stay");
 
     c = compile("a**");
     expect(c.number == 6 && c.place == 2 && c.rows == 0 && c.groups == 0, "a** refuses 6 at 2");

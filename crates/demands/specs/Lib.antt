@@ -3,6 +3,7 @@ pub mod Runs
 pub mod Tight
 pub mod Tidied
 pub mod AllMatches
+pub mod Seconds
 pub mod Demands
 pub mod Pinned
 pub mod Impossible

@@ -102,7 +102,7 @@ module _ {code text : List ℕ} {start row : ℕ} {registers registers′ : List
   pub bounded-rows : executed r ≤ 2 * rowsSaid code * (length text - start + 1)
   bounded-rows = a .bounded
 
-  replied : (k : ℕ) → refusal code lent ≡ k → replyOf r ≡ replyTo k (best M) (count M)
+  pub replied : (k : ℕ) → refusal code lent ≡ k → replyOf r ≡ replyTo k (best M) (count M)
   unfolding reply
   replied k e = a .replies ∙ ap (λ n. replyTo n (best M) (count M)) e
 

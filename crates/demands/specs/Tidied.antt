@@ -105,7 +105,7 @@ outcome (found executed) = found 0
 outcome (missing executed) = missing 0
 outcome (refused number) = refused number
 
-outcome-of : (o : Option Regs) (n m : ℕ) → outcome (answerOf o n) ≡ outcome (answerOf o m)
+pub outcome-of : (o : Option Regs) (n m : ℕ) → outcome (answerOf o n) ≡ outcome (answerOf o m)
 outcome-of none n m = refl
 outcome-of (some ρ) n m = refl
 

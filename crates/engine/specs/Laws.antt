@@ -100,7 +100,7 @@ map-unset zero = refl
 map-unset (suc w) = ap₂ (λ (x : ℤ) (xs : List ℤ). x ∷ xs) shown-nowhere (map-unset w)
 
 -- the spans of a result are what its words show
-spans-are : (g : ℕ) (f : Bool) (words : List ℕ) → (f ≡ false → words ≡ replicate (registersOf g) nowhere)
+pub spans-are : (g : ℕ) (f : Bool) (words : List ℕ) → (f ≡ false → words ≡ replicate (registersOf g) nowhere)
     → map shownWord words ≡ spans g (bestOf f words none)
 spans-are g true words h = sym (map-both words)
 spans-are g false words h = ap (map shownWord) (h refl) ∙ map-unset (registersOf g)

@@ -28,6 +28,8 @@ use Rattle.millkettle.specs.Calls.Compiling.{answerBy, codeLeft, Compiles}
 use Rattle.millkettle.specs.Calls.{Compilation}
 use Rattle.millkettle.specs.Calls.Answers.{replyOf, Answered}
 use Rattle.millkettle.specs.Calls.{Answer}
+use Rattle.millkettle.specs.Calls.Answer.{Found, Missing, Refused}
+use Rattle.millkettle.specs.Calls.Replies.{Seconded}
 use Rattle.wire.specs.Wire.{wordsOf, bytesOfWords, intsOf, bytesOfInts, written}
 use Rattle.wire.specs.Words.{words-length}
 use Rattle.wire.specs.Ints.{ints-length}
@@ -35,7 +37,7 @@ use Rattle.wire.specs.Written.{ints-over, ints-same}
 use Rattle.meaning.specs.Limits.{tableSize, codeSize, workspaceSize}
 use Rattle.host.specs.Surface.{registerCount, compiledNumbers, ranNumbers, lentWords, codeLent, allWords, allInts}
 use Rattle.host.specs.Surface.{lentTo, byteGrounds, replyLent, registersLent}
-use Rattle.host.specs.Surface.{CompilesBytes, RunsBytes}
+use Rattle.host.specs.Surface.{CompilesBytes, RunsBytes, SecondsWords}
 use Rattle.host.specs.declared.Compiled.{Compiled}
 use Rattle.host.specs.declared.Ran.{Ran}
 
@@ -154,3 +156,20 @@ module _ (row : ℕ) (code text : List ℕ) (start : ℕ) (registers : List ℕ)
               ∙ ap₂ (λ x y. registersAfter x y row ints) words-are lent-is
               ∙ ap (registersAfter held called row) (i ∙ ap (intsOf registers) f)) ∙ inside-registers;
         }
+
+-- A call of the second engine passes the numbers of its answer.
+refused-number : (a : Answer) (k : ℕ) → ranNumbers (replyOf a) .number ≡ suc k → a ≡ Refused (suc k)
+refused-number (Found n) k e = absurd (omega arith)
+refused-number (Missing n) k e = absurd (omega arith)
+refused-number (Refused n) k e = ap Refused e
+
+pub seconds-words : {row : ℕ} {code text : List ℕ} {start : ℕ} {registers registers′ : List ℤ} {workspace workspace′ : List ℕ}
+    {a : Answer} {r : Ran} → Seconded code text start row registers workspace a registers′ workspace′
+    → r ≡ ranNumbers (replyOf a) → SecondsWords row code text start registers workspace r registers′ workspace′
+seconds-words {a = a} s e = record {
+  replies = e ∙ ap ranNumbers (s .replies);
+  spans = s .spans;
+  long = s .long;
+  later = s .later;
+  untouched = λ k z. s .untouched (suc k) (refused-number a k (sym (ap (λ (x : Ran). x .number) e) ∙ z));
+}

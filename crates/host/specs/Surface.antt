@@ -2,19 +2,20 @@
 use mathlib.Core.Path.{_≡_}
 use mathlib.Core.Bool.{Bool, not, _||_}
 use mathlib.Core.List.{List, _∷_}
-use Prim.Native.Nat.{ℕ, _/_, min}
+use Prim.Native.Nat.{ℕ, suc, _≤_, _/_, min}
 use lib.Dec.{ltb}
 use lib.IntN.{ℤ}
-use lib.ListN.{length}
+use lib.ListN.{length, getD}
 use Rattle.meaning.specs.Text.{registersOf}
-use Rattle.meaning.specs.Limits.{groupLimit, tableSize, codeSize, workspaceSize}
+use Rattle.meaning.specs.Limits.{groupLimit, tableSize, codeSize, workspaceSize, secondWords}
 use Rattle.meaning.specs.Refusals as No
 use Rattle.meaning.specs.Grounds.{Ground, ground, firstOf}
 use Rattle.machine.specs.Steps.{Machine, best, count}
 use Rattle.machine.specs.Words.{rowsSaid, groupsSaid, codePasses}
-use Rattle.machine.specs.Replies.{Reply, valuesOf, Lent, lend, lentGrounds, runOf, replyTo, registersFrom}
+use Rattle.machine.specs.Replies.{Reply, valuesOf, Lent, lend, lentBy, lentGrounds, runOf, replyTo, registersFrom}
 use Rattle.reading_items.specs.Reading.{reading}
 use Rattle.millkettle.specs.Calls.Compiling.{answerBy, codeLeft}
+use Rattle.millkettle.specs.Calls.Replies.{secondReply, secondRegisters}
 use Rattle.millkettle.specs.Calls.{Compilation}
 use Rattle.millkettle.specs.Calls.Compilation.{Rows, Refused}
 use Rattle.wire.specs.Wire.{wordsOf, intsOf, bytesOfWords, bytesOfInts, written}
@@ -88,3 +89,14 @@ pub record RunsBytes (row : ℕ) (code text : List ℕ) (start : ℕ) (registers
     : Type 0 where
   pub replies : r ≡ ranNumbers (replyLent row code text start registers)
   pub spans : registers′ ≡ registersLent row code text start registers
+
+-- The promise of a call of the second engine that begins at a row, on words that are lent as they are: the numbers of its reply,
+-- the registers, and that words behind those that it needs stay, and all of them if it was turned away.
+pub record SecondsWords (row : ℕ) (code text : List ℕ) (start : ℕ) (registers : List ℤ) (workspace : List ℕ) (r : Ran)
+    (registers′ : List ℤ) (workspace′ : List ℕ) : Type 0 where
+  pub replies : r ≡ ranNumbers (secondReply code (lentBy text start registers workspace) row)
+  pub spans : registers′ ≡ secondRegisters code (lentBy text start registers workspace) row registers
+  pub long : length workspace′ ≡ length workspace
+  pub later : (i : ℕ) → secondWords (rowsSaid code) (groupsSaid code) (length text) ≤ i
+      → getD workspace′ i 0 ≡ getD workspace i 0
+  pub untouched : (k : ℕ) → r .number ≡ suc k → workspace′ ≡ workspace

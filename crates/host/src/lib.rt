@@ -9,6 +9,7 @@ ghost use Rattle.machine.specs.Steps.{searchRow, matchRow};
 ghost use Rattle.millkettle.specs.Calls.Compiling.{plain, tidied, Compiles};
 ghost use Rattle.millkettle.specs.Calls.Answers.{replyOf, Answered};
 ghost use Rattle.host.specs.Surface.{compiledNumbers, ranNumbers, lentWords, CompilesBytes, RunsBytes};
+ghost use Rattle.host.specs.Surface.{SecondsWords};
 use meaning::limits::CODE_SIZE;
 use meaning::limits::REGISTER_LIMIT;
 use meaning::limits::TABLE_SIZE;
@@ -204,4 +205,37 @@ pub extern "C" fn millkettle_search(
         (now (registers .exit)) ⌝ }
 {
     run_lent(true, code, text, start, registers)
+}
+
+// Matches at the start by the second engine, in words that are lent as they are: its workspace is as large as its formula says.
+// Answers 0 with found or none and the count, or the number of a refusal, and all is as it was.
+#[no_mangle]
+pub extern "C" fn millkettle_second_match(
+    code: &[u32],
+    text: &[u8],
+    start: usize,
+    registers: &mut [i32],
+    workspace: &mut [u32],
+) -> Ran
+    ensures { λ r. ⌜ SecondsWords matchRow (now (code .entry)) (now (text .entry)) start (now (registers .entry))
+        (now (workspace .entry)) r (now (registers .exit)) (now (workspace .exit)) ⌝ }
+{
+    let answer = millkettle::second_match(code, text, start, registers, workspace);
+    ran_numbers(answer)
+}
+
+// Searches from the start on by the second engine. Answers as `millkettle_second_match` does.
+#[no_mangle]
+pub extern "C" fn millkettle_second_search(
+    code: &[u32],
+    text: &[u8],
+    start: usize,
+    registers: &mut [i32],
+    workspace: &mut [u32],
+) -> Ran
+    ensures { λ r. ⌜ SecondsWords searchRow (now (code .entry)) (now (text .entry)) start (now (registers .entry))
+        (now (workspace .entry)) r (now (registers .exit)) (now (workspace .exit)) ⌝ }
+{
+    let answer = millkettle::second_search(code, text, start, registers, workspace);
+    ran_numbers(answer)
 }

@@ -59,6 +59,18 @@ pub fn run(search: bool, code: &[u32], text: &[u8], start: usize) {
     say_answer(answer, &registers);
 }
 
+// The same by the second engine.
+pub fn second(search: bool, code: &[u32], text: &[u8], start: usize) {
+    let mut registers = [7i32; 4];
+    let mut workspace = [5u32; 4096];
+    let answer = if search {
+        millkettle::second_search(code, text, start, &mut registers, &mut workspace)
+    } else {
+        millkettle::second_match(code, text, start, &mut registers, &mut workspace)
+    };
+    say_answer(answer, &registers);
+}
+
 // What compiling answers.
 fn say_compiled(answer: Compilation) {
     match answer {

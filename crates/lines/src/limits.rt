@@ -108,3 +108,54 @@ pub fn all_in_order() {
     lend_all(enough, text, 0, 1, 288);
     lend_all(enough, text, 0, 2, 288);
 }
+
+// The second engine's search for `b`, in the words that it needs for the longest text.
+fn search_plain(text: &[u8]) {
+    let code = code_of(b"b");
+    let mut registers = [7i32; 4];
+    let mut words = [5u32; 368732];
+    say_number(b"plain search 0 b on ", text.len() as u64);
+    say(b" a");
+    let answer = millkettle::second_search(&code, text, 0, &mut registers, &mut words);
+    say_answer(answer, &registers);
+}
+
+// The longest text that the second engine takes, and one byte more.
+pub fn plain_far() {
+    let text = [97u8; 4097];
+    search_plain(&text[0..4096]);
+    search_plain(&text);
+}
+
+// A call of the second engine with that many registers and words of a workspace, at most 4 and 182.
+fn lend_plain(code: &[u32], text: &[u8], start: usize, registers: usize, workspace: usize) {
+    say(b"plain ");
+    say_lent(code.len(), text.len(), start, registers, workspace);
+    let mut values = [7i32; 4];
+    let mut words = [5u32; 182];
+    if registers <= 4 {
+        if workspace <= 182 {
+            let answer = millkettle::second_match(
+                code,
+                text,
+                start,
+                &mut values[0..registers],
+                &mut words[0..workspace],
+            );
+            say_answer(answer, &values);
+        }
+    }
+}
+
+// The same in order, for the second engine: `a` on a text of one byte needs 9 * 10 * 2 + 2 words.
+pub fn plain_in_order() {
+    let code = code_of(b"a");
+    let words = &code[..];
+    let enough = &words[0..120];
+    let text = b"a";
+    lend_plain(&words[0..119], text, 2, 1, 181);
+    lend_plain(enough, text, 2, 1, 181);
+    lend_plain(enough, text, 1, 1, 181);
+    lend_plain(enough, text, 1, 2, 181);
+    lend_plain(enough, text, 1, 2, 182);
+}

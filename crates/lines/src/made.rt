@@ -4,6 +4,7 @@ ghost use Prim.Native.Nat.{_+_, _≤_};
 ghost use lib.ListN.{length};
 use crate::answers;
 use crate::answers::run;
+use crate::answers::second;
 use crate::questions::byte_at;
 use crate::questions::digit_at;
 use machine::ACCEPT;
@@ -102,4 +103,11 @@ pub fn list(rows: &[u8], text: &[u8]) {
     let mut code = accepts(0);
     read_rows(&mut code, rows);
     every(&code, text);
+}
+
+// The answer of the second engine to the code of some rows.
+pub fn ask_plain(rows: &[u8], text: &[u8]) {
+    let mut code = accepts(0);
+    read_rows(&mut code, rows);
+    second(false, &code, text, 0);
 }

@@ -16,4 +16,6 @@ fn main() {
     limits::in_order();
     limits::groups();
     limits::all_in_order();
+    limits::plain_far();
+    limits::plain_in_order();
 }

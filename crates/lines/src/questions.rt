@@ -1,6 +1,7 @@
 // The questions: `match 0 PATTERN`, `search 0 PATTERN` and `find 0 PATTERN` with the start, `all 0 8 PATTERN` with the start and
 // the words of the list, `compile PATTERN` and `tidied PATTERN`, and `rows` with rows by hand, `every` with rows of which every
-// match is asked for, or `unused` with a 1 in each word that they do not use; readings.rt has those on fields and gates.
+// match is asked for, or `unused` with a 1 in each word that they do not use; readings.rt has those on fields
+// and gates. Behind `plain` stands a match, a search or rows for the second engine.
 ghost use mathlib.Core.Path.{_≡_};
 ghost use Prim.Native.Nat.{_-_, _<_, _≤_};
 ghost use lib.ListN.{length, getD};
@@ -54,6 +55,32 @@ fn run(search: bool, pattern: &[u8], text: &[u8], start: usize) {
     on(text);
     let code = code_of(pattern);
     answers::run(search, &code, text, start);
+}
+
+// The same by the second engine.
+fn run_plain(search: bool, pattern: &[u8], text: &[u8], start: usize) {
+    let code = code_of(pattern);
+    answers::second(search, &code, text, start);
+}
+
+// A question to the second engine, by its first letter.
+fn ask_plain(question: &[u8], text: &[u8]) {
+    on(text);
+    match byte_at(question, 0) {
+        b'm' => run_plain(
+            false,
+            rest(question, 8),
+            text,
+            digit_at(question, 6) as usize,
+        ),
+        b's' => run_plain(
+            true,
+            rest(question, 9),
+            text,
+            digit_at(question, 7) as usize,
+        ),
+        _ => made::ask_plain(rest(question, 4), text),
+    }
 }
 
 // A pattern found in one call.
@@ -114,6 +141,7 @@ fn ask(question: &[u8], text: &[u8]) {
             on(text);
             readings::gate(question, text)
         }
+        b'p' => ask_plain(rest(question, 6), text),
         b'u' => {
             on(text);
             made::ask(rest(question, 6), text, 1)

@@ -56,7 +56,7 @@ module _ (allowed : Key → Bool) where
   spend-last n true s h e =
       omega (arith, missing-self (at n true) s h e, missing-cons (at n false) (at n true) s, free-cons n (at n true) s)
 
-  spend : (n : ℕ) (p : Key) (s : List Key) → p .row < n → allowed p ≡ true → among p s ≡ false
+  pub spend : (n : ℕ) (p : Key) (s : List Key) → p .row < n → allowed p ≡ true → among p s ≡ false
       → suc (free n (p ∷ s)) ≤ free n s
   spend zero p s low h e = absurd (omega arith)
   spend (suc n) p s low h e = go (decLt (p .row) n) (λ l. spend n p s l h e)

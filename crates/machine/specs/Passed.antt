@@ -67,7 +67,7 @@ module _ (p : Program) (pass : rowsPass p ≡ true) where
     acts i q b (assertion a) e next = guards i (holdsAt w a i) (λ ρ. ρ) (at (suc q) b) (next refl)
 
     -- Rows that pass lead to rows of the program.
-    leads : (i : ℕ) (k : Key) → May (twoEach n) k → Leads i (moveOf w (p .rows) i k)
+    pub leads : (i : ℕ) (k : Key) → May (twoEach n) k → Leads i (moveOf w (p .rows) i k)
     leads i k h = acts i (k .row) (k .flag) (rowAt (p .rows) (k .row)) (row-passes (k .row) (h .0)) (not-last (k .row) (h .0))
 
     may : (ts : List Thread) → All (λ t. t .key .row < n) ts → All (λ t. May (twoEach n) (t .key)) ts

@@ -66,6 +66,15 @@ lineFeed = 0x0A
 abbrev pub workspaceWords : ℕ → ℕ → ℕ
 workspaceWords n g = 16 * n * (g + 2)
 
+-- The longest text that the second engine takes, in bytes (refusal 21), and the workspace words that it needs for n rows, g
+-- groups and a text of some length (refusal 24): for each position from 0 to the end 2n marks and 2n choices of 2(g+1) + 2
+-- words, and the running thread's registers.
+abbrev pub secondLimit : ℕ
+secondLimit = 4096
+
+abbrev pub secondWords : ℕ → ℕ → ℕ → ℕ
+secondWords n g size = n * (4 * g + 10) * (size + 1) + 2 * (g + 1)
+
 -- The buffers of the intake program and of the host: words of table, code and workspace.
 abbrev pub tableSize : ℕ
 tableSize = 4128

@@ -27,6 +27,9 @@ pub const SET_WORDS: usize = 8;
 // The longest text, in bytes (refusal 21).
 pub const TEXT_LIMIT: usize = 16777216;
 
+// The longest text that the second engine takes (refusal 21).
+pub const SECOND_LIMIT: usize = 4096;
+
 // A register's word is a position below this number, and -1 from it on.
 pub const POSITION_LIMIT: u32 = 2147483648;
 

@@ -18,3 +18,4 @@ pub use Rattle.fields.specs.declared.Gate.{Gate}
 pub use Rattle.fields.specs.declared.Gate.the-variants as Gate
 pub use Rattle.fields.specs.declared.Passing.{Passing}
 pub use Rattle.fields.specs.declared.Passing.the-variants as Passing
+pub use Rattle.second.specs.Replies

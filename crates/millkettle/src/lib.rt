@@ -1,5 +1,6 @@
-// The calls that users link: patterns are compiled, code is matched and searched, and `find` does both; what was captured is read
-// as a number, and gates say whether it passes. None asks anything of its arguments: what it cannot do it refuses by the outline's number, and a refusal leaves behind what the outline says.
+// The calls that users link: patterns are compiled, code is matched and searched, by a second engine too, and `find` compiles and
+// searches; what was captured is read as a number, and gates say whether it passes. None asks anything of its arguments: what it
+// cannot do it refuses by the outline's number, and a refusal leaves behind what the outline says.
 ghost use mathlib.Core.Path.{_≡_};
 ghost use Rattle.machine.specs.Steps.{searchRow, matchRow};
 ghost use Rattle.compiler.specs.Compiling.{plain, tidied, Compiles};
@@ -7,6 +8,7 @@ ghost use Rattle.engine.specs.Answers.{Answered};
 ghost use Rattle.repetition.specs.Listings.{Lists};
 ghost use Rattle.fields.specs.Scanning.{fieldOf};
 ghost use Rattle.fields.specs.Gates.{passing, passingField};
+ghost use Rattle.second.specs.Replies.{Seconded};
 ghost use Rattle.millkettle.specs.Finding.{findingOf, Finds};
 pub use compiler::Compilation;
 pub use engine::Answer;
@@ -85,6 +87,35 @@ pub fn search_all(
         (now (workspace .entry)) (now (workspace .exit)) r ⌝ }
 {
     repetition::search_all(code, text, start, list, workspace)
+}
+
+// A second opinion on `match_at`, by a plain backtracking matcher (docs/SECOND.md): for texts to 4,096 bytes the same answer and
+// the same registers, in a larger workspace. The count of rows executed is its own. Refuses by 20 to 24 and changes nothing.
+pub fn second_match(
+    code: &[u32],
+    text: &[u8],
+    start: usize,
+    registers: &mut [i32],
+    workspace: &mut [u32],
+) -> Answer
+    ensures { λ r. ⌜ Seconded (now (code .entry)) (now (text .entry)) start matchRow (now (registers .entry))
+        (now (workspace .entry)) r (now (registers .exit)) (now (workspace .exit)) ⌝ }
+{
+    second::second_match(code, text, start, registers, workspace)
+}
+
+// A second opinion on `search`. Answers as `second_match`.
+pub fn second_search(
+    code: &[u32],
+    text: &[u8],
+    start: usize,
+    registers: &mut [i32],
+    workspace: &mut [u32],
+) -> Answer
+    ensures { λ r. ⌜ Seconded (now (code .entry)) (now (text .entry)) start searchRow (now (registers .entry))
+        (now (workspace .entry)) r (now (registers .exit)) (now (workspace .exit)) ⌝ }
+{
+    second::second_search(code, text, start, registers, workspace)
 }
 
 // A run's answer as an answer of `find`: a refused run is at place 0.

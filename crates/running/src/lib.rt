@@ -49,7 +49,7 @@ fn plan_of(code: &[u32]) -> Plan
 }
 
 // The byte after a position, and the byte before it.
-fn byte_after(text: &[u8], position: usize) -> u32
+pub fn byte_after(text: &[u8], position: usize) -> u32
     ensures { λ r. ⌜ byteOf r ≡ byteAfter (now (text .entry)) position ⌝ }
 {
     if position < text.len() {
@@ -58,7 +58,7 @@ fn byte_after(text: &[u8], position: usize) -> u32
     NO_BYTE
 }
 
-fn byte_before(text: &[u8], position: usize) -> u32
+pub fn byte_before(text: &[u8], position: usize) -> u32
     ensures { λ r. ⌜ byteOf r ≡ byteBefore (now (text .entry)) position ⌝ }
 {
     if 0 < position {

@@ -77,6 +77,18 @@ pub struct Passed {
 type Compile = unsafe extern "C" fn(*const u8, usize, *mut u8, usize) -> Compiled;
 type Run = unsafe extern "C" fn(*const u8, usize, *const u8, usize, usize, *mut u8, usize) -> Ran;
 
+type Second = unsafe extern "C" fn(
+    *const u32,
+    usize,
+    *const u8,
+    usize,
+    usize,
+    *mut i32,
+    usize,
+    *mut u32,
+    usize,
+) -> Ran;
+
 extern "C" {
     fn millkettle_compile(
         pattern: *const u8,
@@ -116,6 +128,30 @@ extern "C" {
     fn millkettle_read_field(text: *const u8, text_bytes: usize, start: i32, end: i32) -> Read;
 
     fn millkettle_pass(low: f64, high: f64, value: f64) -> Passed;
+
+    fn millkettle_second_match(
+        code: *const u32,
+        code_words: usize,
+        text: *const u8,
+        text_bytes: usize,
+        start: usize,
+        registers: *mut i32,
+        registers_words: usize,
+        workspace: *mut u32,
+        workspace_words: usize,
+    ) -> Ran;
+
+    fn millkettle_second_search(
+        code: *const u32,
+        code_words: usize,
+        text: *const u8,
+        text_bytes: usize,
+        start: usize,
+        registers: *mut i32,
+        registers_words: usize,
+        workspace: *mut u32,
+        workspace_words: usize,
+    ) -> Ran;
 }
 
 fn compile_by(compile: Compile, pattern: &[u8], code: &mut [u8]) -> Compiled {
@@ -127,6 +163,23 @@ fn run_by(run: Run, code: &[u8], text: &[u8], start: usize, registers: &mut [u8]
     let (held, bytes) = (registers.as_mut_ptr(), registers.len());
     // SAFETY: the three pointers are valid for their lengths, and `registers` overlaps nothing.
     unsafe { run(code.as_ptr(), code.len(), text.as_ptr(), text.len(), start, held, bytes) }
+}
+
+fn second_by(
+    run: Second,
+    code: &[u32],
+    text: &[u8],
+    start: usize,
+    registers: &mut [i32],
+    workspace: &mut [u32],
+) -> Ran {
+    let (held, count) = (registers.as_mut_ptr(), registers.len());
+    let (work, words) = (workspace.as_mut_ptr(), workspace.len());
+    // SAFETY: the four pointers are valid for their lengths, and `registers` and `workspace`
+    // overlap nothing.
+    unsafe {
+        run(code.as_ptr(), code.len(), text.as_ptr(), text.len(), start, held, count, work, words)
+    }
 }
 
 /// Compiles a pattern into the lent code bytes.
@@ -317,4 +370,26 @@ pub fn read_field(text: &[u8], start: i32, end: i32) -> Read {
 pub fn pass(low: f64, high: f64, value: f64) -> Passed {
     // SAFETY: numbers are passed, and nothing is lent.
     unsafe { millkettle_pass(low, high, value) }
+}
+
+/// Runs code words on a text by the second engine, matching at the start.
+pub fn second_match(
+    code: &[u32],
+    text: &[u8],
+    start: usize,
+    registers: &mut [i32],
+    workspace: &mut [u32],
+) -> Ran {
+    second_by(millkettle_second_match, code, text, start, registers, workspace)
+}
+
+/// Runs code words on a text by the second engine, searching from the start on.
+pub fn second_search(
+    code: &[u32],
+    text: &[u8],
+    start: usize,
+    registers: &mut [i32],
+    workspace: &mut [u32],
+) -> Ran {
+    second_by(millkettle_second_search, code, text, start, registers, workspace)
 }

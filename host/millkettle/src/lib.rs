@@ -60,7 +60,7 @@ pub mod words;
 
 pub use error::{FieldError, PatternError, RunError};
 pub use fields::{Gate, Reading};
-pub use matching::{Answer, Match, Matches};
+pub use matching::{Answer, Match, Matches, SecondOpinion};
 pub use pattern::{Entry, Found, Pattern};
 
 /// The examples of the guide are tests as well.

@@ -20,6 +20,23 @@ pub struct Matches<'t> {
     pub rows_executed: u64,
 }
 
+/// What both engines answer to the same question.
+#[derive(Clone, Debug, PartialEq, Eq)]
+pub struct SecondOpinion<'t> {
+    /// The main engine's answer.
+    pub first: Answer<'t>,
+    /// The second engine's; its count of rows executed is its own.
+    pub second: Answer<'t>,
+}
+
+impl SecondOpinion<'_> {
+    /// Whether both found nothing, or the same with every group: it is proved that they do.
+    pub fn agrees(&self) -> bool {
+        let spans = |answer: &Answer| answer.found.as_ref().map(|found| found.spans.clone());
+        spans(&self.first) == spans(&self.second)
+    }
+}
+
 /// A match in a text: where the whole and each group start and end.
 ///
 /// ```

@@ -2,7 +2,7 @@
 
 use crate::raw::{self, Compiled, Ran};
 use crate::words;
-use crate::{Answer, Match, Matches, PatternError, RunError};
+use crate::{Answer, Match, Matches, PatternError, RunError, SecondOpinion};
 use std::ops::Range;
 
 /// The match that a run found, if there is one, or why it was turned away.
@@ -283,6 +283,48 @@ impl Pattern {
 
     fn workspace(&self) -> Vec<u32> {
         vec![0; self.workspace_words()]
+    }
+
+    /// The answers of both engines: the main one and the plain second one, which takes texts of
+    /// 4,096 bytes (21 refuses longer ones) and some memory from the heap for each byte of text.
+    ///
+    /// ```
+    /// use millkettle::{Entry, Pattern};
+    ///
+    /// let opinion = Pattern::new(b"a|ab")?.second_opinion(Entry::MatchAt, b"ab", 0)?;
+    /// assert!(opinion.agrees());
+    /// assert_eq!(opinion.second.found.map(|found| found.end()), Some(1));
+    /// assert_eq!((opinion.first.rows_executed, opinion.second.rows_executed), (7, 6));
+    /// # Ok::<(), Box<dyn std::error::Error>>(())
+    /// ```
+    pub fn second_opinion<'t>(
+        &self,
+        entry: Entry,
+        text: &'t [u8],
+        start: usize,
+    ) -> Result<SecondOpinion<'t>, RunError> {
+        let first = self.run(entry, text, start)?;
+        let second = self.second(entry, text, start)?;
+        Ok(SecondOpinion { first, second })
+    }
+
+    /// The answer of the second engine alone.
+    fn second<'t>(
+        &self,
+        entry: Entry,
+        text: &'t [u8],
+        start: usize,
+    ) -> Result<Answer<'t>, RunError> {
+        let (rows, groups) = (self.rows as usize, self.groups as usize);
+        let bytes = text.len().min(raw::SECOND_TEXT_BYTES);
+        let mut workspace = vec![0; raw::second_workspace_words(rows, groups, bytes)];
+        let mut registers = vec![0; 2 * (groups + 1)];
+        let run = match entry {
+            Entry::MatchAt => raw::second_match,
+            Entry::Search => raw::second_search,
+        };
+        let ran = run(&self.words, text, start, &mut registers, &mut workspace);
+        answered(ran, || Match::of_spans(text, &registers, ran.count))
     }
 }
 

@@ -2,7 +2,7 @@
 #![cfg(feature = "tidied")]
 
 mod common;
-use common::{bytes_of, register_words, run_raw, words_of};
+use common::{bytes_of, register_words, run_raw, second_raw, words_of};
 use millkettle::{raw, words, Entry, Pattern};
 use reference::fields::{Gate, Reading};
 use reference::intake::CODE_WORDS;
@@ -84,6 +84,20 @@ impl Answers for Surface {
             return refuse(passed.number, passed.place);
         }
         Ok(passed.passes == 1)
+    }
+
+    fn second(
+        &self,
+        code: &[u32],
+        on: Run,
+        registers: &mut [i32; 4],
+    ) -> Result<(bool, u64), Refusal> {
+        let mut workspace = vec![5; 4_096];
+        let ran = second_raw(on.entry, code, on.text, on.start, registers, &mut workspace);
+        if ran.number != 0 {
+            return refuse(ran.number, ran.place);
+        }
+        Ok((ran.found == 1, ran.count))
     }
 }
 

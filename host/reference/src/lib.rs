@@ -13,6 +13,7 @@
 //! | [`compile`] | pattern bytes | code words, plain or tidied |
 //! | [`steps`] | code words, text | the outline's step machine, refusals 20 to 24 |
 //! | [`repetition`] | code words, text | every match, refusals 20 to 25 |
+//! | [`second`] | code words, text | the second engine's steps, refusals 20 to 24 |
 //! | [`matcher::memory`] | rows, text | ordered search that tries nothing twice |
 //! | [`matcher::standard`] | a tree, text | the standard's own matcher |
 //! | [`fields`] | a text and a span | a number or refusal 28; gates, refusal 29 |
@@ -33,6 +34,7 @@ pub mod reader;
 pub mod refusal;
 pub mod repetition;
 pub mod rows;
+pub mod second;
 pub mod sets;
 pub mod steps;
 pub mod tidier;

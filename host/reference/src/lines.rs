@@ -37,6 +37,14 @@ pub trait Answers {
 
     /// Whether a gate passes a value.
     fn passes(&self, gate: Gate, value: f64) -> Result<bool, Refusal>;
+
+    /// The same by the second engine.
+    fn second(
+        &self,
+        code: &[u32],
+        run: Run,
+        registers: &mut [i32; 4],
+    ) -> Result<(bool, u64), Refusal>;
 }
 
 /// What a call for every match answers: matches and count, or the refusal with the words needed.
@@ -76,14 +84,24 @@ impl Line {
         self.text.chars().map(|byte| byte as u8).collect()
     }
 
+    /// The question without the word for the second engine.
+    fn question(&self) -> &str {
+        self.question.strip_prefix("plain ").unwrap_or(&self.question)
+    }
+
+    /// Whether the second engine is asked.
+    fn second(&self) -> bool {
+        self.question() != self.question
+    }
+
     /// The word that says what is asked.
     fn asks(&self) -> &str {
-        self.question.split(' ').next().unwrap_or_default()
+        self.question().split(' ').next().unwrap_or_default()
     }
 
     /// What stands behind that word, and behind the start of a run.
     fn behind(&self, bytes: usize) -> &str {
-        self.question.get(self.asks().len() + bytes..).unwrap_or_default()
+        self.question().get(self.asks().len() + bytes..).unwrap_or_default()
     }
 
     /// The pattern that is asked about; nothing if rows are.
@@ -151,7 +169,11 @@ impl Line {
         let start = if self.pattern().is_some() { start } else { 0 };
         let mut registers = [7; 4];
         let run = Run { entry, text: &self.bytes(), start };
-        let answer = match code.and_then(|code| answers.run(&code, run, &mut registers)) {
+        let ran = code.and_then(|code| match self.second() {
+            true => answers.second(&code, run, &mut registers),
+            false => answers.run(&code, run, &mut registers),
+        });
+        let answer = match ran {
             Ok((true, count)) => format!("found, rows {count}"),
             Ok((false, count)) => format!("none, rows {count}"),
             Err(refusal) if self.asks() == "find" => refused(refusal),

@@ -8,13 +8,21 @@ use reference::intake;
 use reference::lines::{lines, Answers, Listed, Run};
 use reference::refusal::{Refusal, LIST_TOO_SHORT};
 use reference::repetition::{search_all, Listing};
-use reference::steps::{run, Entry, Lent};
+use reference::second;
+use reference::steps::{run, Answer, Entry, Lent};
 use reference::tidier::tidy;
 use std::fs;
 use std::path::{Path, PathBuf};
 
 /// The reference, with room for everything.
 struct Reference;
+
+/// Registers as a run leaves them, and its answer.
+fn left(answer: Answer, code: &[u32], registers: &mut [i32; 4]) -> (bool, u64) {
+    let spans = answer.spans.clone().unwrap_or(vec![-1; 2 * (code[1] as usize + 1)]);
+    registers[..spans.len()].copy_from_slice(&spans);
+    (answer.spans.is_some(), answer.count)
+}
 
 impl Answers for Reference {
     fn compile(&self, pattern: &[u8], tidied: bool) -> Result<Vec<u32>, Refusal> {
@@ -25,9 +33,18 @@ impl Answers for Reference {
     fn run(&self, code: &[u32], on: Run, registers: &mut [i32; 4]) -> Result<(bool, u64), Refusal> {
         let lent = Lent { registers: 4, workspace: ROOM };
         let answer = run(code, on.text, on.start, lent, on.entry)?;
-        let spans = answer.spans.clone().unwrap_or(vec![-1; 2 * (code[1] as usize + 1)]);
-        registers[..spans.len()].copy_from_slice(&spans);
-        Ok((answer.spans.is_some(), answer.count))
+        Ok(left(answer, code, registers))
+    }
+
+    fn second(
+        &self,
+        code: &[u32],
+        on: Run,
+        registers: &mut [i32; 4],
+    ) -> Result<(bool, u64), Refusal> {
+        let lent = Lent { registers: 4, workspace: ROOM };
+        let answer = second::run(code, on.text, on.start, lent, on.entry)?;
+        Ok(left(answer, code, registers))
     }
 
     fn list(&self, code: &[u32], text: &[u8], start: usize, list: &mut [i32]) -> Listed {

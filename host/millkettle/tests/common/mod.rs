@@ -85,6 +85,21 @@ pub fn run_raw(entry: Entry, code: &[u8], text: &[u8], start: usize, lent: &mut 
     }
 }
 
+/// Runs the second engine's call of an entry.
+pub fn second_raw(
+    entry: Entry,
+    code: &[u32],
+    text: &[u8],
+    start: usize,
+    registers: &mut [i32],
+    workspace: &mut [u32],
+) -> Ran {
+    match entry {
+        Entry::MatchAt => raw::second_match(code, text, start, registers, workspace),
+        Entry::Search => raw::second_search(code, text, start, registers, workspace),
+    }
+}
+
 /// Runs code bytes on a text with these registers' bytes and compares the reply and every byte that
 /// is left; the count is at most 2n for each position.
 pub fn run_alike(

@@ -1,0 +1,15 @@
+pub mod Below
+pub mod Plain
+pub mod Tried
+pub mod Tries
+pub mod Follows
+pub mod Ends
+pub mod Agrees
+pub mod Held
+pub mod Replies
+pub mod Choices
+pub mod Moves
+pub mod Marked
+pub mod Trying
+pub mod Course
+pub mod Laws
