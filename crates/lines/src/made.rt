@@ -105,9 +105,13 @@ pub fn list(rows: &[u8], text: &[u8]) {
     every(&code, text);
 }
 
+fn answer_plain(code: &[u32; 120], text: &[u8]) {
+    second(false, code, text, 0);
+}
+
 // The answer of the second engine to the code of some rows.
 pub fn ask_plain(rows: &[u8], text: &[u8]) {
     let mut code = accepts(0);
     read_rows(&mut code, rows);
-    second(false, &code, text, 0);
+    answer_plain(&code, text);
 }

@@ -152,8 +152,11 @@ fn r20_by_the_codes_words() {
     );
     assert_eq!([0, 1, 31, 32, u32::MAX].map(|g| changed(1, g)), [20, 0, 0, 20, 20]);
     // Row 0 is the Fork of the prefix, row 6 the Open of group 1, row 10 the Accept.
-    // As an Assert it would have the operand 5.
-    assert_eq!([0, 1, 8, 10, 11, 256].map(|kind| changed(12, kind)), [20, 0, 0, 20, 20, 20]);
+    // As an Accept or a Begin it would have operands that these do not use, as an Assert the operand 5.
+    assert_eq!(
+        [0, 1, 4, 8, 10, 11, 256].map(|kind| changed(12, kind)),
+        [20, 20, 0, 20, 20, 20, 20]
+    );
     assert_eq!([10, 11, u32::MAX].map(|target| changed(13, target)), [0, 20, 20]);
     assert_eq!([10, 11, u32::MAX].map(|target| changed(14, target)), [0, 20, 20]);
     assert_eq!([0, 1, 2].map(|group| changed(12 * 7 + 1, group)), [0, 0, 20]);

@@ -3,6 +3,7 @@
 mod common;
 use common::*;
 use millkettle::{Entry as Way, Pattern};
+use reference::compile::compile;
 use reference::generate::{damaged_pattern, long_text, pattern, text};
 use reference::matcher::{memory, standard};
 use reference::reader::{read, Reading};
@@ -89,8 +90,7 @@ impl Taken {
 }
 
 impl Tally {
-    /// Compiles a pattern; the safe wrapper takes it and refuses it as well, but for want of lent
-    /// bytes.
+    /// Compiles a pattern; the safe wrapper takes it and refuses it as well, but for want of room.
     fn compile(&mut self, random: &mut Random, bytes: &[u8]) -> Option<Taken> {
         let lent = lent_code(random);
         let wrapped = Pattern::new(bytes).map_err(|error| (error.number(), error.place()));
@@ -103,7 +103,11 @@ impl Tally {
             }
             Err(Refusal { number, place }) => {
                 self.refused[number as usize] += 1;
-                assert!(number == 16 || wrapped == Err((number, place)));
+                // For want of room the wrapper takes the calls on words.
+                let whole = compile(bytes, usize::MAX, usize::MAX).map(|program| program.words());
+                let whole = whole.map_err(|refusal| (refusal.number, refusal.place));
+                assert!(number == 2 || number == 16 || whole == Err((number, place)));
+                assert_eq!(wrapped.map(|pattern| pattern.words().to_vec()), whole);
                 None
             }
         }

@@ -53,7 +53,9 @@ fn room(random: &mut Random, code: &[u32], text: &[u8]) -> Lent {
     match random.below(20) {
         0 => Lent { registers: 2 * g + 1, workspace },
         1 => Lent { registers: 2 * g + 2, workspace: workspace - 1 },
-        _ => Lent { registers: 2 * g + random.between(2, 5), workspace: workspace + random.below(4) },
+        _ => {
+            Lent { registers: 2 * g + random.between(2, 5), workspace: workspace + random.below(4) }
+        }
     }
 }
 
@@ -134,7 +136,9 @@ fn nested_loops_on_the_longest_text() {
 #[test]
 fn rows_and_time() {
     let text: Vec<u8> = b"L03 06:15 level 1.42 m rising ".repeat(10);
-    for bytes in [&br"(L\d\d) (\d\d:\d\d) level (\d+)"[..], br"(?:a*)*b", br"rising$", br"\d+\.\d+ cm"] {
+    for bytes in
+        [&br"(L\d\d) (\d\d:\d\d) level (\d+)"[..], br"(?:a*)*b", br"rising$", br"\d+\.\d+ cm"]
+    {
         let pattern = Pattern::new(bytes).expect("a pattern");
         let opinion = pattern.second_opinion(Way::Search, &text, 0).expect("both take it");
         assert!(opinion.agrees());

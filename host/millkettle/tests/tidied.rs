@@ -67,7 +67,8 @@ fn refusals_are_those_of_the_plain_pattern() {
     assert_eq!(number("(?:a{509}){0}b").map(|pattern| pattern.rows()), Ok(9));
     assert_eq!(number("(?:){1000}a[]").map(|pattern| pattern.rows()), Ok(9));
     assert_eq!(number("(?:(?:){1000}){2}").map(|pattern| pattern.rows()), Err(15));
-    assert_eq!(number("a{100}").map(|pattern| pattern.rows()), Err(16));
+    assert_eq!(raw::compile_tidied(b"a{100}", &mut [0; raw::CODE_BYTES]).number, 16);
+    assert_eq!(number("a{100}").map(|pattern| pattern.rows()), Ok(208));
 }
 
 #[test]

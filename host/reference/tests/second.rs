@@ -31,7 +31,8 @@ fn both_limits() {
     let code = reference::compile::compile(b"a", 640, 640).expect("a pattern").words();
     let ask = |length: usize, words: usize| {
         let lent = Lent { registers: 2, workspace: words };
-        second::run(&code, &vec![b'b'; length], 0, lent, Entry::Search).map_or_else(|e| e.number, |_| 0)
+        second::run(&code, &vec![b'b'; length], 0, lent, Entry::Search)
+            .map_or_else(|e| e.number, |_| 0)
     };
     assert_eq!((ask(4_096, usize::MAX), ask(4_097, usize::MAX)), (0, 21));
     assert_eq!((ask(1, 181), ask(1, 182)), (24, 0));

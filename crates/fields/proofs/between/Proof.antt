@@ -1,8 +1,10 @@
 -- Each return goes by the tests that led there.
-use mathlib.Core.Path.{sym, _∙_}
+use mathlib.Core.Path.{sym, ap, _∙_}
 use mathlib.Core.Bool.{and-false}
 use borrow.Author.Needs.{needs}
 use borrow.Author.Tests.{not-true, not-false}
+use lib.Ieee.{le}
+use Rattle.fields.specs.Gates.{toldBy}
 use Rattle.fields.specs.Order.{above-numbers}
 use Rattle.fields.proofs.between.Statement.{statement}
 use Rattle.fields.proofs.between.Tie as tie
@@ -24,13 +26,14 @@ reversed c =
 
 reached : tie.Need-returns-3
 reached c =
+    let args = c .before .before .before .before .before .before .args in
     let low = c .before .before .before .before .before .is-number in
     rw (
       sym (low .ensures) ∙ not-false (low .result) (c .before .before .before .before .if1 .left),
       c .before .before .before .if2 .left,
       c .before .before .if3 .taken,
-      ← c .before .is-number2 .ensures,
-    ) (c .told3 .ensures)
+    )
+    (c .told3 .ensures ∙ ap (λ number. toldBy number (le (args .value) (args .high))) (c .before .is-number2 .ensures))
 
 below : tie.Need-returns-4
 below c =

@@ -16,28 +16,40 @@ empty-before c =
     let wide = c .before .before in
     let a = wide .before .before .args in
     sym (next-somewhere (a .start) (a .from) (a .to) (wide .before .if1 .left)
-    ∙ rw (eq-eqb (a .from) (a .to) (c .before .if2 .taken), le-ltb (a .start) (a .to + 1) (omega (arith, c .if3 .taken, wide .wide .ensures .0))))
+    ∙ rw (
+      eq-eqb (a .from) (a .to) (c .before .if2 .taken),
+      le-ltb (a .start) (a .to + 1) (omega (arith, c .if3 .taken, wide .wide .ensures .0)),
+    ))
 
 empty-beyond : tie.Need-returns-3
 empty-beyond c =
     let wide = c .before .before in
     let a = wide .before .before .args in
     rw (wide .wide .ensures .0) (sym (next-somewhere (a .start) (a .from) (a .to) (wide .before .if1 .left)
-    ∙ rw (eq-eqb (a .from) (a .to) (c .before .if2 .taken), lt-ltb (a .start) (a .to + 1) (omega (arith, c .if3 .left, wide .wide .ensures .0)))))
+    ∙ rw (
+      eq-eqb (a .from) (a .to) (c .before .if2 .taken),
+      lt-ltb (a .start) (a .to + 1) (omega (arith, c .if3 .left, wide .wide .ensures .0)),
+    )))
 
 before : tie.Need-returns-4
 before c =
     let wide = c .before .before in
     let a = wide .before .before .args in
     sym (next-somewhere (a .start) (a .from) (a .to) (wide .before .if1 .left)
-    ∙ rw (ne-eqb (a .from) (a .to) (c .before .if2 .left), le-ltb (a .start) (a .to) (omega (arith, c .if4 .taken, wide .wide .ensures .0))))
+    ∙ rw (
+      ne-eqb (a .from) (a .to) (c .before .if2 .left),
+      le-ltb (a .start) (a .to) (omega (arith, c .if4 .taken, wide .wide .ensures .0)),
+    ))
 
 beyond-it : tie.Need-returns-5
 beyond-it c =
     let wide = c .before .before in
     let a = wide .before .before .args in
     rw (wide .wide .ensures .0) (sym (next-somewhere (a .start) (a .from) (a .to) (wide .before .if1 .left)
-    ∙ rw (ne-eqb (a .from) (a .to) (c .before .if2 .left), lt-ltb (a .start) (a .to) (omega (arith, c .if4 .left, wide .wide .ensures .0)))))
+    ∙ rw (
+      ne-eqb (a .from) (a .to) (c .before .if2 .left),
+      lt-ltb (a .start) (a .to) (omega (arith, c .if4 .left, wide .wide .ensures .0)),
+    )))
 
 pub next-start-spec : {M : Type 1} → statement M
 next-start-spec =
