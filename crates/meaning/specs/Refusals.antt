@@ -80,6 +80,13 @@ smallWorkspace = 24
 abbrev pub shortList : ℕ
 shortList = 25
 
+-- A table to be shown: it is outside the form; its text is too long, too deep or larger than the room.
+abbrev pub outsideForm : ℕ
+outsideForm = 26
+
+abbrev pub unshown : ℕ
+unshown = 27
+
 -- A span that is no number, one of no bytes included; a gate whose limit is no number.
 abbrev pub badField : ℕ
 badField = 28

@@ -56,6 +56,11 @@ pub const SMALL_WORKSPACE: u32 = 24;
 // A list too short for the matches of a repetition.
 pub const SHORT_LIST: u32 = 25;
 
+// A table to be shown: it is outside the form; its text is too long, too deep or larger than the room.
+pub const OUTSIDE_FORM: u32 = 26;
+
+pub const UNSHOWN: u32 = 27;
+
 // A span that is no number, one of no bytes included; a gate whose limit is no number.
 pub const BAD_FIELD: u32 = 28;
 

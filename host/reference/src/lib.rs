@@ -19,6 +19,7 @@
 //! | [`fields`] | a text and a span | a number or refusal 28; gates, refusal 29 |
 //! | [`intake`] | a whole input | what the intake program writes |
 //! | [`generate`] | a seed | random patterns, texts and code |
+//! | [`show`] | a tree | pattern bytes again, in one spelling |
 //! | [`lines`] | the program `lines`' files | its questions, put to what answers |
 #![forbid(unsafe_code)]
 #![deny(missing_docs)]
@@ -36,5 +37,6 @@ pub mod repetition;
 pub mod rows;
 pub mod second;
 pub mod sets;
+pub mod show;
 pub mod steps;
 pub mod tidier;

@@ -1,0 +1,13 @@
+pub mod Decide
+pub mod Form
+pub mod Exact
+pub mod Keeps
+pub mod Parts
+pub mod Order
+pub mod Shapes
+pub mod Builds
+pub mod Stack
+pub mod Closing
+pub mod Blank
+pub mod Walked
+pub mod Checked
