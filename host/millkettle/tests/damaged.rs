@@ -22,7 +22,7 @@ impl Tally {
         code.extend(stale(random, behind));
         let start = random.below(text.len() + 1);
         for entry in ENTRIES {
-            let registers = stale(random, 128);
+            let registers = stale(random, 256);
             match run_alike(entry, &code, text, start, registers) {
                 Ok(_) => self.ran += 1,
                 Err(refusal) => self.failed += u32::from(refusal.number == 20),

@@ -23,7 +23,7 @@ fn lent_code(random: &mut Random) -> Vec<u8> {
 
 /// Registers' bytes: mostly enough.
 fn lent_registers(random: &mut Random) -> Vec<u8> {
-    let length = if random.percent(90) { random.between(128, 140) } else { random.below(140) };
+    let length = if random.percent(90) { random.between(256, 268) } else { random.below(268) };
     stale(random, length)
 }
 

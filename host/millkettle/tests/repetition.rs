@@ -26,7 +26,7 @@ fn stale_list(random: &mut Random, length: usize) -> Vec<i32> {
 /// A workspace for code: mostly as large as is needed or larger, else anything.
 fn workspace_for(random: &mut Random, code: &[u32]) -> Vec<u32> {
     let (rows, groups) = match code {
-        [n, g, ..] => (*n.min(&1_024), *g.min(&15)),
+        [n, g, ..] => (*n.min(&1_024), *g.min(&31)),
         _ => (0, 0),
     };
     let needed = words::workspace_words(rows, groups);

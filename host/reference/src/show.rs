@@ -13,9 +13,7 @@ pub fn text(tree: &Node) -> String {
         Node::Assert(number) => ["^", "$", "\\b", "\\B"][*number as usize].into(),
         Node::Group(_, inner) => format!("({})", text(inner)),
         Node::Seq(items) => items.iter().map(item).collect(),
-        Node::Alt(alternatives) => {
-            alternatives.iter().map(text).collect::<Vec<_>>().join("|")
-        }
+        Node::Alt(alternatives) => alternatives.iter().map(text).collect::<Vec<_>>().join("|"),
         Node::Many { min, max, lazy, inner } => {
             let body = match inner.as_ref() {
                 Node::Set(_) | Node::Group(..) => text(inner),

@@ -5,7 +5,7 @@ use reference::generate::{code, text, Random};
 use reference::second::{self, workspace};
 use reference::steps::{run, Entry, Lent};
 
-const LENT: Lent = Lent { registers: 32, workspace: usize::MAX / 64 };
+const LENT: Lent = Lent { registers: 64, workspace: usize::MAX / 64 };
 
 #[test]
 fn random_code() {
