@@ -43,15 +43,43 @@ fn any_words(random: &mut Random) -> Vec<u32> {
     (0..length).map(|_| random.next() as u32).collect()
 }
 
-/// Words below the number of rows, which is that of the header: some pass the check.
+/// Rows of any kind whose operands are below the number of rows, some with a stray word: some pass
+/// the check.
 fn small_words(random: &mut Random) -> Vec<u32> {
     let n = random.between(8, 11);
-    let mut words: Vec<u32> = (0..ROW_WORDS * (n + 1)).map(|_| random.below(n) as u32).collect();
+    let mut words = vec![0; ROW_WORDS * (n + 1)];
     words[0] = n as u32;
     words[1] = random.between(10, 15) as u32;
+    for row in words.chunks_exact_mut(ROW_WORDS).skip(1) {
+        row[0] = random.below(n) as u32;
+        let operands = match row[0] {
+            3 | 5 | 6 | 9 | 10 => 1,
+            4 | 7 => 2,
+            _ => 0,
+        };
+        row[1..operands + 1].fill_with(|| random.below(n) as u32);
+        if row[0] == 2 {
+            row[4..].fill_with(|| random.next() as u32);
+        }
+    }
     let last = random.pick(&[1, 3, 4, 9]).unwrap_or(1);
+    words[ROW_WORDS * n..].fill(0);
     words[ROW_WORDS * n] = last;
+    if random.percent(10) {
+        let stray = random.below(words.len());
+        words[stray] = random.below(n) as u32;
+    }
     words
+}
+
+/// A place in code's bytes: often in a Consume's set or in a first operand, else anywhere.
+fn place(random: &mut Random, code: &[u8]) -> usize {
+    let row = 4 * ROW_WORDS * random.between(1, code.len() / (4 * ROW_WORDS) - 1);
+    match (random.percent(70), code[row]) {
+        (true, 2) => row + random.between(16, 47),
+        (true, _) => row + 4,
+        _ => random.below(code.len()),
+    }
 }
 
 #[test]
@@ -114,7 +142,7 @@ fn damaged_bytes() {
         if let Ok(program) = compile(&bytes, usize::MAX, 1_164) {
             let mut code = bytes_of(&program.words());
             for _ in 0..random.between(1, 3) {
-                let at = random.below(code.len());
+                let at = place(random, &code);
                 code[at] ^= 1 << random.below(8);
             }
             if random.percent(10) {
