@@ -77,7 +77,7 @@ impl Tally {
             1 => random.below(needed + 1),
             2 => needed,
             // As many words as there can be, and more: one pass.
-            3 => 32 * (text.len() + 2),
+            3 => 64 * (text.len() + 2),
             _ => needed + random.below(9),
         };
         let list = stale_list(random, length);
@@ -152,7 +152,7 @@ fn damaged() {
         let text = text(random, b"ab");
         tally.list(random, &code, &text);
     });
-    tally.enough(3_000, 1_000, 100);
+    tally.enough(2_000, 1_000, 100);
     if whole_run() {
         assert!(tally.refused[20] > 1_000);
     }
