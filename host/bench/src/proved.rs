@@ -4,6 +4,7 @@ use crate::call::{Answer, Call};
 
 /// What a run answers.
 #[repr(C)]
+#[derive(Default)]
 struct Ran {
     number: u32,
     found: u32,
@@ -13,6 +14,7 @@ struct Ran {
 
 /// What a call for every match answers.
 #[repr(C)]
+#[derive(Default)]
 struct Listed {
     number: u32,
     place: usize,
@@ -21,10 +23,12 @@ struct Listed {
     count: u64,
 }
 
-// A slice is a pointer and a length.
+// A slice is a pointer and a length. What is answered is too large for registers: on x86-64 a caller lends its place before all
+// else, and so does the module that is compiled for Arm.
 #[link(name = "engine_c", kind = "static")]
 extern "C" {
     fn millkettle_match_words(
+        answer: *mut Ran,
         code: *const u32,
         code_words: usize,
         text: *const u8,
@@ -34,8 +38,9 @@ extern "C" {
         register_count: usize,
         workspace: *mut u32,
         workspace_words: usize,
-    ) -> Ran;
+    );
     fn millkettle_search_words(
+        answer: *mut Ran,
         code: *const u32,
         code_words: usize,
         text: *const u8,
@@ -45,8 +50,9 @@ extern "C" {
         register_count: usize,
         workspace: *mut u32,
         workspace_words: usize,
-    ) -> Ran;
+    );
     fn millkettle_search_all_words(
+        answer: *mut Listed,
         code: *const u32,
         code_words: usize,
         text: *const u8,
@@ -56,15 +62,17 @@ extern "C" {
         list_words: usize,
         workspace: *mut u32,
         workspace_words: usize,
-    ) -> Listed;
+    );
 }
 
 /// A call of the engine.
 pub fn run(call: &Call, registers: &mut [i32], workspace: &mut [u32]) -> Answer {
     let engine = if call.row == 0 { millkettle_search_words } else { millkettle_match_words };
     // SAFETY: each pointer and length are of one slice, and no two slices that may change overlap.
-    let ran = unsafe {
+    let mut ran = Ran::default();
+    unsafe {
         engine(
+            &mut ran,
             call.code.as_ptr(),
             call.code.len(),
             call.text.as_ptr(),
@@ -84,8 +92,10 @@ pub fn run(call: &Call, registers: &mut [i32], workspace: &mut [u32]) -> Answer 
 /// Every match of code in a text: how many, and the rows executed.
 pub fn all(code: &[u32], text: &[u8], list: &mut [i32], workspace: &mut [u32]) -> (usize, u64) {
     // SAFETY: each pointer and length are of one slice, and no two slices that may change overlap.
-    let listed = unsafe {
+    let mut listed = Listed::default();
+    unsafe {
         millkettle_search_all_words(
+            &mut listed,
             code.as_ptr(),
             code.len(),
             text.as_ptr(),
