@@ -6,3 +6,4 @@ pub mod Shown
 pub mod Read
 pub mod Fewest
 pub mod Rows
+pub mod Writes

@@ -63,7 +63,6 @@ abbrev μ-loop : lts.MeasureT-loop
 μ-loop table top out₀ end kind items at₀ item₀ left₀ out at item left = left
 
 module _ (t : ℕ) where
-
   word-requires : lts.Need-word-requires (calls t) (asked t) part.Post Inv-loop μ-loop
   word-requires c κs =
       let e = (c .before .before) .pre .1 .0 .ends in
@@ -122,17 +121,40 @@ module _ (t : ℕ) where
   put-if-requires-2 c κs =
       let s = (c .before .before .before .before .before .before .before .before .before .before .before .before .before .before .before .before .before .before) .pre .1 .0 in
       let p = (c .before .before .before .before .before .before .before .before .loop) .inv (s .before) (s .part) (s .ends) .put in
-      omega (arith, put-down p, p .long, put-down ((c .before .before .before .before .before .before .before .before .before .before .before .put-close) .ensures), (c .before .before .before .before .before .before .before .before .before .before .before .put-close) .ensures .long, (c .before .before .before .before .before .before .before .before .before .before .before .before .before .before .before .before .before .before) .pre .1 .1,
-      put-down ((c .before .before .before .put-if) .ensures), (c .before .before .before .put-if) .ensures .long)
+      omega (
+        arith,
+        put-down p,
+        p .long,
+        put-down ((c .before .before .before .before .before .before .before .before .before .before .before .put-close) .ensures),
+        (c .before .before .before .before .before .before .before .before .before .before .before .put-close) .ensures .long,
+        (c .before .before .before .before .before .before .before .before .before .before .before .before .before .before .before .before .before .before) .pre .1 .1,
+        put-down ((c .before .before .before .put-if) .ensures),
+        (c .before .before .before .put-if) .ensures .long,
+      )
 
   part-requires : lts.Need-part-requires (calls t) (asked t) part.Post Inv-loop μ-loop
   part-requires c κs =
       let s = (c .before .before .before .before .before .before .before .before .before .before .before .before .before .before .before .before .before .before .before .before .before .before) .pre .1 .0 in
       let w = (c .before .before .before .before .before .before .before .before .before .before .before .before .loop) .inv (s .before) (s .part) (s .ends) in
       let u = passing-turn w ((c .before .before .before .before .before .before .before .before .before .before .before .loop-test) .taken) in
-      let p = w .put in
-      (omega (arith, (c .before .before .before .before .before .before .before .before .before .before .before .before .before .before .before .before .before .before .before .before .before .before) .pre .0, u .below), (u .there, omega (arith, put-down p, p .long, put-down ((c .before .before .before .before .before .before .before .before .before .before .before .before .before .before .before .put-close) .ensures), (c .before .before .before .before .before .before .before .before .before .before .before .before .before .before .before .put-close) .ensures .long, (c .before .before .before .before .before .before .before .before .before .before .before .before .before .before .before .before .before .before .before .before .before .before) .pre .1 .1,
-      put-down ((c .before .before .before .before .before .before .before .put-if) .ensures), (c .before .before .before .before .before .before .before .put-if) .ensures .long, put-down ((c .before .before .before .put-if2) .ensures), (c .before .before .before .put-if2) .ensures .long)))
+      let p = w .put in (
+        omega (arith, (c .before .before .before .before .before .before .before .before .before .before .before .before .before .before .before .before .before .before .before .before .before .before) .pre .0, u .below),
+        (
+          u .there,
+          omega (
+            arith,
+            put-down p,
+            p .long,
+            put-down ((c .before .before .before .before .before .before .before .before .before .before .before .before .before .before .before .put-close) .ensures),
+            (c .before .before .before .before .before .before .before .before .before .before .before .before .before .before .before .put-close) .ensures .long,
+            (c .before .before .before .before .before .before .before .before .before .before .before .before .before .before .before .before .before .before .before .before .before .before) .pre .1 .1,
+            put-down ((c .before .before .before .before .before .before .before .put-if) .ensures),
+            (c .before .before .before .before .before .before .before .put-if) .ensures .long,
+            put-down ((c .before .before .before .put-if2) .ensures),
+            (c .before .before .before .put-if2) .ensures .long,
+          ),
+        ),
+      )
 
   put-opening-requires : lts.Need-put-opening-requires (calls t) (asked t) part.Post Inv-loop μ-loop
   put-opening-requires c κs =
@@ -141,8 +163,20 @@ module _ (t : ℕ) where
       let u = passing-turn w ((c .before .before .before .before .before .before .before .before .before .before .before .before .before .before .before .loop-test) .taken) .there in
       let p = w .put in
       let v = (c .before .before .before .part) .ensures .by (u .before) (u .part) (u .ends) in
-      omega (arith, put-down p, p .long, put-down ((c .before .before .before .before .before .before .before .before .before .before .before .before .before .before .before .before .before .before .before .put-close) .ensures), (c .before .before .before .before .before .before .before .before .before .before .before .before .before .before .before .before .before .before .before .put-close) .ensures .long, (c .before .before .before .before .before .before .before .before .before .before .before .before .before .before .before .before .before .before .before .before .before .before .before .before .before .before) .pre .1 .1,
-      put-down ((c .before .before .before .before .before .before .before .before .before .before .before .put-if) .ensures), (c .before .before .before .before .before .before .before .before .before .before .before .put-if) .ensures .long, put-down ((c .before .before .before .before .before .before .before .put-if2) .ensures), (c .before .before .before .before .before .before .before .put-if2) .ensures .long, put-down v, v .long)
+      omega (
+        arith,
+        put-down p,
+        p .long,
+        put-down ((c .before .before .before .before .before .before .before .before .before .before .before .before .before .before .before .before .before .before .before .put-close) .ensures),
+        (c .before .before .before .before .before .before .before .before .before .before .before .before .before .before .before .before .before .before .before .put-close) .ensures .long,
+        (c .before .before .before .before .before .before .before .before .before .before .before .before .before .before .before .before .before .before .before .before .before .before .before .before .before .before) .pre .1 .1,
+        put-down ((c .before .before .before .before .before .before .before .before .before .before .before .put-if) .ensures),
+        (c .before .before .before .before .before .before .before .before .before .before .before .put-if) .ensures .long,
+        put-down ((c .before .before .before .before .before .before .before .put-if2) .ensures),
+        (c .before .before .before .before .before .before .before .put-if2) .ensures .long,
+        put-down v,
+        v .long,
+      )
 
   previous-requires : lts.Need-previous-requires (calls t) (asked t) part.Post Inv-loop μ-loop
   previous-requires c κs =
@@ -178,8 +212,9 @@ module _ (t : ℕ) where
 
   returns-2 : lts.Need-returns-2 (calls t) (asked t) part.Post Inv-loop μ-loop
   returns-2 c =
-      record { by = λ before q e.
-        passing-done e ((c .before .before .before .before .before .before .before .before .before .before .before .before .word) .ensures) ((c .before .before .before .before .before .before .before .before .before .before .before .if1) .left) ((c .before .before .before .before .before .loop) .inv before q e) (omega (arith, (c .before .before .before .before .loop-test) .left)) ((c .before .before .before .before .before .before .before .before .put-close) .ensures) ((c .before .before .put-if3) .ensures)
+      record {
+        by = λ before q e.
+            passing-done e ((c .before .before .before .before .before .before .before .before .before .before .before .before .word) .ensures) ((c .before .before .before .before .before .before .before .before .before .before .before .if1) .left) ((c .before .before .before .before .before .loop) .inv before q e) (omega (arith, (c .before .before .before .before .loop-test) .left)) ((c .before .before .before .before .before .before .before .before .put-close) .ensures) ((c .before .before .put-if3) .ensures);
       }
 
 pub +part-spec : {M : Type 1} → statement M
