@@ -6,4 +6,5 @@ pub mod Shown
 pub mod Read
 pub mod Fewest
 pub mod Rows
+pub mod Depth
 pub mod Writes

@@ -60,7 +60,7 @@ text-leaf (alt r q) h = absurd (omega arith)
 text-leaf (many n e lazy r) h = absurd (omega arith)
 
 -- What is wrapped is what needs it.
-wraps-loose : (r : Node) → wraps sequenceKind (kindOf r) ≡ loose r
+pub wraps-loose : (r : Node) → wraps sequenceKind (kindOf r) ≡ loose r
 wraps-loose empty = refl
 wraps-loose (bset s) = refl
 wraps-loose (assert a) = refl
@@ -69,7 +69,7 @@ wraps-loose (seq r q) = refl
 wraps-loose (alt r q) = refl
 wraps-loose (many n e lazy r) = refl
 
-wraps-bound : (r : Node) → wraps quantifierKind (kindOf r) ≡ bound r
+pub wraps-bound : (r : Node) → wraps quantifierKind (kindOf r) ≡ bound r
 wraps-bound empty = refl
 wraps-bound (bset s) = refl
 wraps-bound (assert a) = refl
