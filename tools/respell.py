@@ -21,6 +21,7 @@ GIVEN = ("item_by", "no_byte", "no_bytes", "room_for", "row_words", "rows_pass",
 LEMMA, CLASH = "_lem", "_told"
 # What the first script respelled because a library had the same spelling, where it stands in an edit or a page.
 FIRST = os.path.join(os.path.dirname(os.path.abspath(__file__)), "respelled.txt")
+ALSO = {"in-first", "in-many", "in-row", "in-run", "loop-of-loops"}
 GENERATED = re.compile(r"^(loop|invariant|decreases|returns|overflow\w*|if|in|ghost|prove|bounds|slice_bounds)-|-(requires|ensures|spec|init|preserved|smaller)(-\d+)?$")
 
 
@@ -53,7 +54,7 @@ def declared(root):
                 m = DECLARED.match(line)
                 if m and not line.lstrip().startswith("--") and not line.startswith("use "):
                     n = m[2]
-                    if n[0].islower() and n[0].isascii() and snake(n) != n and WORD.fullmatch(n) and not GENERATED.search(n):
+                    if n[0].islower() and n[0].isascii() and snake(n) != n and WORD.fullmatch(n) and (n in ALSO or not GENERATED.search(n)):
                         found.add(n)
     return found
 
@@ -150,8 +151,9 @@ def main(argv):
     for p, old in texts.items():
         t = old
         kind = "code" if p.endswith(".rt") else "spec" if bare(p, root) else "walk"
-        if kind != "code":
-            t = re.sub(r"(?<![\w'.-])(" + "|".join(GIVEN) + r")(?![\w'-])", r"\1" + LEMMA, t)
+        given = [w for w in GIVEN if w in table.values()]
+        if kind != "code" and given:
+            t = re.sub(r"(?<![\w'.-])(" + "|".join(given) + r")(?![\w'-])", r"\1" + LEMMA, t)
         new = turned(t, table, foreign(t), kind)
         if new != old:
             with open(p, "w", encoding="utf-8") as f:

@@ -26,20 +26,20 @@ use Rattle.showing_spelling.specs.Bytes.{byte_atom, byte_long, byte_free}
 abbrev in_run : ℕ → ℕ → ℕ → Bool
 in_run first end x = leb first x && ltb x end
 
-in-run : (first end x : ℕ) → in_run first end x ≡ true → (first ≤ x) × (x < end)
-in-run first end x e = let (p, q) = and_true (leb first x) (ltb x end) e in (leb-true first x p, ltb-true x end q)
+in_run_lem : (first end x : ℕ) → in_run first end x ≡ true → (first ≤ x) × (x < end)
+in_run_lem first end x e = let (p, q) = and_true (leb first x) (ltb x end) e in (leb-true first x p, ltb-true x end q)
 
 to_run : (first end x : ℕ) → first ≤ x → x < end → in_run first end x ≡ true
 to_run first end x h l = and_of (leb first x) (ltb x end) (le-leb first x h) (lt-ltb x end l)
 
 run_none : (first end x : ℕ) → end ≤ first → in_run first end x ≡ false
 run_none first end x h =
-    iff_eq (in_run first end x) false (λ e. absurd (let (l, u) = in-run first end x e in omega arith)) (λ e. absurd (true≢false (sym e)))
+    iff_eq (in_run first end x) false (λ e. absurd (let (l, u) = in_run_lem first end x e in omega arith)) (λ e. absurd (true≢false (sym e)))
 
 run_one : (first end x : ℕ) → end ≡ first + 1 → takes first x ≡ in_run first end x
 run_one first end x h =
     iff_eq (takes first x) (in_run first end x) (λ e. let q = eqb-true x first e in to_run first end x (omega arith) (omega arith))
-    (λ e. let (l, u) = in-run first end x e in eq-eqb x first (omega arith))
+    (λ e. let (l, u) = in_run_lem first end x e in eq-eqb x first (omega arith))
 
 run_two : (first end x : ℕ) → end ≡ first + 2 → (takes first x || takes (first + 1) x) ≡ in_run first end x
 run_two first end x h =
@@ -47,7 +47,7 @@ run_two first end x h =
     (λ e. ⊎_elim (λ p. let q = eqb-true x first p in to_run first end x (omega arith) (omega arith))
     (λ p. let q = eqb-true x (first + 1) p in to_run first end x (omega arith) (omega arith))
     (either (takes first x) (takes (first + 1) x) e))
-    (λ e. let (l, u) = in-run first end x e in elim (dec_le x first) [
+    (λ e. let (l, u) = in_run_lem first end x e in elim (dec_le x first) [
       | yes d ↦ rw (eq-eqb x first (omega arith))
       | no d ↦ rw (eq-eqb x (first + 1) (omega arith)) (or-true (takes first x))
     ])
@@ -56,7 +56,7 @@ run_range : (first end x : ℕ) → first < end → between first (end - 1) x �
 run_range first end x h =
     iff_eq (between first (end - 1) x) (in_run first end x)
     (λ e. let (l, u) = between_true first (end - 1) x e in to_run first end x l (omega arith))
-    (λ e. let (l, u) = in-run first end x e in
+    (λ e. let (l, u) = in_run_lem first end x e in
     and_of (leb first x) (leb x (end - 1)) (le-leb first x l) (le-leb x (end - 1) (omega arith)))
 
 pub hyphen_guarded : guarded true hyphen ≡ true
@@ -181,7 +181,7 @@ module _ (s : List ℕ) (o : ℕ) where
   unfolding runs_text
   runs_read test zero end h k all {p} {f} l = λ a n.
       listed_as (run_read zero end k l a n) refl (λ x i. ap (λ (t : Bool). f x || t) (iff_eq (in_run zero end x) (test x && ltb x end)
-      (λ e. let (u, v) = in-run zero end x e in and_of (test x) (ltb x end) (all x u v) (lt-ltb x end v))
+      (λ e. let (u, v) = in_run_lem zero end x e in and_of (test x) (ltb x end) (all x u v) (lt-ltb x end v))
       (λ e. to_run zero end x (omega arith) (ltb-true x end (and_true (test x) (ltb x end) e).1))))
   runs_read test (suc n) end h k all {p} {f} l =
       by_test (Reads p f (λ x. test x && ltb x end)) (test n)
@@ -208,7 +208,7 @@ module _ (s : List ℕ) (o : ℕ) where
           same e x = iff_eq (test x && ltb x n || in_run (suc n) end x) (test x && ltb x end)
               (λ w. ⊎_elim (λ w. let (c, d) = and_true (test x) (ltb x n) w in
               and_of (test x) (ltb x end) c (lt-ltb x end (omega (arith, ltb-true x n d))))
-              (λ w. let (c, d) = in-run (suc n) end x w in and_of (test x) (ltb x end) (all x c d) (lt-ltb x end d))
+              (λ w. let (c, d) = in_run_lem (suc n) end x w in and_of (test x) (ltb x end) (all x c d) (lt-ltb x end d))
               (either (test x && ltb x n) (in_run (suc n) end x) w))
               (λ w. let (c, d) = and_true (test x) (ltb x end) w in
               let below = ltb-true x end d in elim (dec_lt x n) [

@@ -101,10 +101,10 @@ many_rows_lem n (some e) lazy r q h =
     omega (arith, mul-le-mul_left n f, mul-le-mul_left e g)
 
 -- and a quantifier.
-pub in-many : (n : ℕ) (e : Option ℕ) (lazy : Bool) (r q : Node) → Positive (groups r) → Kept r q
+pub in_many : (n : ℕ) (e : Option ℕ) (lazy : Bool) (r q : Node) → Positive (groups r) → Kept r q
     → Kept (many n e lazy r) (many n e lazy q)
 unfolding groups weight charge extra
-in-many n e lazy r q p h = record {
+in_many n e lazy r q p h = record {
   like = order_many n e lazy (alike p h.numbers h.like);
   numbers = h.numbers;
   flat = h.flat;

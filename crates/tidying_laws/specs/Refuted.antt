@@ -50,9 +50,9 @@ aab = 0x61 ∷ 0x61 ∷ 0x62 ∷ []
 abbrev tail : Node → Node
 tail r = seq r (group 1 (alt (seq a b) b))
 
-pub loop-of-loops : match_at (text_of aab) 1 (tail (star true (star false a))) 0 ≡ some (some 0 ∷ some 3 ∷ some 2 ∷ some 3 ∷ [])
+pub loop_of_loops : match_at (text_of aab) 1 (tail (star true (star false a))) 0 ≡ some (some 0 ∷ some 3 ∷ some 2 ∷ some 3 ∷ [])
 unfolding match_at matcher repeat_matcher fits has bit unset opened closed lo hi cleared wiped
-loop-of-loops = refl
+loop_of_loops = refl
 
 pub one_loop : match_at (text_of aab) 1 (tail (star true a)) 0 ≡ some (some 0 ∷ some 3 ∷ some 1 ∷ some 3 ∷ [])
 unfolding match_at matcher repeat_matcher fits has bit unset opened closed lo hi cleared wiped
@@ -62,7 +62,7 @@ one_loop = refl
 pub T5-not : Alike (star true (star false a)) (star true a) → ⊥
 T5-not k =
     differ (tail (star true (star false a))) (tail (star true a)) 2 (1, refl, (refl, (2, (2, refl, refl), refl)))
-    aab (omega arith) 1 0 (omega arith) _ _ loop-of-loops one_loop (λ e. let z : ◌≡◌ {A = ℕ} 2 1 = cc in omega arith)
+    aab (omega arith) 1 0 (omega arith) _ _ loop_of_loops one_loop (λ e. let z : ◌≡◌ {A = ℕ} 2 1 = cc in omega arith)
     (alike_seq k (alike_refl (group 1 (alt (seq a b) b))))
 
 -- Nor is (?:r*)+? that, by the same case: T10 asks that both are greedy. And (?:r*)+ is not r+: on "" it gives 0,0 and r+ gives

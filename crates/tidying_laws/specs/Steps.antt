@@ -9,7 +9,7 @@ use Rattle.tidying_laws.specs.Tidier.{Place, itself, inside, whole, places, lowe
 use Rattle.tidying_laws.specs.Found.{ok_first}
 use Rattle.meaning.specs.All.{All, all_map, all_append, all_imp}
 use Rattle.tidying_laws.specs.Kept.{Ok, ok_map}
-use Rattle.tidying_laws.specs.Kept.{Kept, in_group, in_left, in_right, in-many}
+use Rattle.tidying_laws.specs.Kept.{Kept, in_group, in_left, in_right, in_many}
 
 -- Every law of the list keeps what it must.
 laws_kept : All (λ f. (r : Node) → Ok (Kept r) (f r)) laws
@@ -59,7 +59,7 @@ places_keep t (alt r q) p = let (a, b) = positive_both (groups r) (groups q) p i
     (places_keep (some alternation) q b)
 places_keep t (many n e lazy r) p = let l : List Place = places none r in let s : Node = many n e lazy r in
     all_append (Keeps s) (map (inside (many n e lazy)) l) (itself s ∷ [])
-    (inside_keep r s (many n e lazy) (λ q h. in-many n e lazy r q p h) l (places_keep none r p)) (λ q h. h, tt)
+    (inside_keep r s (many n e lazy) (λ q h. in_many n e lazy r q p h) l (places_keep none r p)) (λ q h. h, tt)
 
 found_kept : (r : Node) → Positive (groups r) → Ok (λ t. Kept r t.1.1) (found r)
 unfolding found

@@ -170,21 +170,21 @@ module _ {table : List ℕ} {n root at : ℕ} (j : Joins table n root at) where
   InRow (alone tok rest) r = ⊥
   InRow (among k others later rest) r = (kind_of r ≡ row_kind k) × (token_at table at ≡ row_token k (others + 1))
 
-  in-row : (before : List Token) (r : Node) (P : Parent none) → Unmerged table n root before r P → InRow P r
-  in-row before r top u =
+  in_row_lem : (before : List Token) (r : Node) (P : Parent none) → Unmerged table n root before r P → InRow P r
+  in_row_lem before r top u =
       omega (arith, parent_at u j.parent, j.inside, all_records u)
-  in-row before r (alone tok rest) u =
+  in_row_lem before r (alone tok rest) u =
       let there : token_at table at ≡ tok = ap (token_at table) (parent_at u j.parent) ∙ token_behind u [] tok rest refl in
       let kind : get_or table (record_words * at) 0 ≡ tok.kind = ap (λ t. t.kind) there in
       ⊎_elim (λ w. omega (arith, j.same, j.low)) (λ w. omega (arith, j.same, j.high)) u.sound.kind
-  in-row before r (among k others later rest) u =
+  in_row_lem before r (among k others later rest) u =
       let there = row_there before r k others later rest u j.parent in
       (sym (own_kind u) ∙ sym j.same ∙ ap (λ t. t.kind) there, there)
 
   -- The items of both are one more than the row then has.
   pub both_items : {before : List Token} {r : Node} {P : Parent none} → Unmerged table n root before r P
       → get_or table (record_words * at + 3) 0 + get_or table (record_words * root + 3) 0 ≡ items_of P (width (row_of P) r) + 1
-  both_items {before} {r} {P} u = go P u (in-row before r P u)
+  both_items {before} {r} {P} u = go P u (in_row_lem before r P u)
     where
       go : (P : Parent none) → Unmerged table n root before r P → InRow P r
           → get_or table (record_words * at + 3) 0 + get_or table (record_words * root + 3) 0 ≡ items_of P (width (row_of P) r) + 1
@@ -223,7 +223,7 @@ module _ {table : List ℕ} {n root at : ℕ} (j : Joins table n root at) where
 
     pub joined : Merged table table' n root (n - 1)
     joined = record {
-      by = λ before r P u. go before r P u (in-row before r P u);
+      by = λ before r P u. go before r P u (in_row_lem before r P u);
       above = removes.above
           ∙ above_more first table (record_words * (at + 1)) (record_words * n) (omega (arith, j.inside)) counts.above;
       fewer = omega arith;

@@ -10,7 +10,7 @@ use Rattle.table.specs.Laws.{inner}
 use Rattle.tidying_laws.specs.Tidier.{Place, itself, inside, whole, places}
 use Rattle.tidying_shapes.specs.Skeleton.{Token, token, row_token, closing, skeleton_in, skeleton, width, pair_in}
 use Rattle.tidying_shapes.specs.Skeleton.{row_parts, glue_in, glue_alone, gives_in, glue_width, pair_width}
-use Rattle.tidying_shapes.specs.Skeleton.{pair_gives, glue_not, pair_not, rest_width, alone as in-row}
+use Rattle.tidying_shapes.specs.Skeleton.{pair_gives, glue_not, pair_not, rest_width, alone as in_row_lem}
 use Rattle.tidying_shapes.specs.Spots.{Parent, Parent.top, Parent.alone, Parent.among, Parent.going, row_of, behind, gives}
 use Rattle.tidying_shapes.specs.Spots.{Depth}
 use Rattle.tidying_shapes.specs.Spots.{Lone, Sound, AsAlone, as_alone, Spot, at_here, lengthen, wrapped}
@@ -18,8 +18,8 @@ use Rattle.tidying_shapes.specs.Spots.{in_row, in_row_depth, in_row_sound, row_p
 
 module _ (t : Option Kind) (k : Kind) (a q : Node) where
   -- A part inside the first part of a row, or that part itself.
-  in-first : (p : Place) (i : ℕ) → Not k a → Spot none a p i → Spot t (pair k a q) (inside (λ s. glue k s q) p) i
-  in-first p i h s = go s.parent s.put s.sound s.single s.depth
+  in_first : (p : Place) (i : ℕ) → Not k a → Spot none a p i → Spot t (pair k a q) (inside (λ s. glue k s q) p) i
+  in_first p i h s = go s.parent s.put s.sound s.single s.depth
     where
       more : List Token
       more = skeleton_in (some k) q ++ closing t k (suc (length (parts k q)))
@@ -40,7 +40,7 @@ module _ (t : Option Kind) (k : Kind) (a q : Node) where
       go top put ok own d = record {
         sound = in_row_sound t k (length (parts k q)) (parts k q) (omega arith);
         single = row_single t k (length (parts k q)) (parts k q) p.part
-            (in-row k p.part (subst (Not k) (sym s.back ∙ d.1 p.part) h));
+            (in_row_lem k p.part (subst (Not k) (sym s.back ∙ d.1 p.part) h));
         earlier = [];
         parent = in_row t k (length (parts k q)) (parts k q);
         put = λ y. row_put t k (length (parts k q)) (parts k q) [] y (skeleton_in t (glue k (p.put y) q))
@@ -186,9 +186,9 @@ whole_spots : (t : Option Kind) (k : Kind) (a q : Node) (n : ℕ) → length (sk
 whole_spots none k a q n e = (at_here none (pair k a q) n (refl, refl) e, tt)
 whole_spots (some sequence) sequence a q n e = tt
 whole_spots (some sequence) alternation a q n e =
-    (at_here (some sequence) (alt a q) n (in-row sequence (alt a q) tt) e, tt)
+    (at_here (some sequence) (alt a q) n (in_row_lem sequence (alt a q) tt) e, tt)
 whole_spots (some alternation) sequence a q n e =
-    (at_here (some alternation) (seq a q) n (in-row alternation (seq a q) tt) e, tt)
+    (at_here (some alternation) (seq a q) n (in_row_lem alternation (seq a q) tt) e, tt)
 whole_spots (some alternation) alternation a q n e = tt
 
 -- What is shown of the places of a pattern: that they are as many as its tokens, and where each stands.
@@ -206,7 +206,7 @@ row_placed t k a q l m h (f, u) (g, v) =
     let first : Spots t (pair k a q) 0 (map (inside (λ p. glue k p q)) l)
     = spots_map none t a (pair k a q) (inside (λ p. glue k p q)) 0
     (λ p i s. subst (λ (x : ℕ). Spot t (pair k a q) (inside (λ p. glue k p q) p) x) (omega arith)
-    (in-first t k a q p i h s)) 0 0 (omega arith) l u in
+    (in_first t k a q p i h s)) 0 0 (omega arith) l u in
     let rest : Spots t (pair k a q) (length (skeleton a)) (map (inside (pair k a)) m)
     = spots_map (some k) t q (pair k a q) (inside (pair k a)) (length (skeleton a)) (in_rest t k a q) 0 (length (skeleton a))
     (omega arith) m v in

@@ -7,7 +7,7 @@ use Rattle.meaning.specs.Flat.{Kind, Kind.sequence, Kind.alternation, pair, Not,
 use Rattle.meaning.specs.Results.{concat_map}
 use Rattle.tidying_laws.specs.Tidier.{Place, itself, inside}
 use Rattle.tidying_shapes.specs.Skeleton.{Token, row_token, closing, skeleton_in, skeleton, width, lone, gives_in}
-use Rattle.tidying_shapes.specs.Skeleton.{alone as in-row}
+use Rattle.tidying_shapes.specs.Skeleton.{alone as in_row_lem}
 
 -- What stands behind a part: nothing, for the whole pattern; the token of the group or the quantifier that it is in, and more;
 -- the later parts of its row, the row's own token with so many other parts, and more; or the later parts of a row that goes on.
@@ -62,7 +62,7 @@ AsAlone t r = (skeleton_in t r ≡ skeleton r) × (width t r ≡ 1)
 
 pub as_alone : (t : Option Kind) (r : Node) → ((k : Kind) → Not k r) → AsAlone t r
 as_alone none r h = (refl, refl)
-as_alone (some k) r h = in-row k r (h k)
+as_alone (some k) r h = in_row_lem k r (h k)
 
 -- A part at a place: the parts that end before it, what stands behind it, and what putting another there does.
 pub record Spot (t : Option Kind) (r : Node) (p : Place) (i : ℕ) : Type 0 where
