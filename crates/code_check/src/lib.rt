@@ -1,4 +1,6 @@
 // The check that stands before every run: whether code can be run (refusal 20).
+#![tactic(auto)]
+
 ghost use Rattle.std.specs.Prelude.{◌≡◌, true, List, ℕ, ◌+◌, ◌≤◌, eqb, length};
 ghost use Rattle.meaning.specs.Limits.{row_words};
 ghost use Rattle.machine.specs.Words.{row_start, decode_row, row_passes, may_be_last, header_passes, code_passes};

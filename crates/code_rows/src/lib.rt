@@ -1,5 +1,7 @@
 // The rows of a pattern, written from the table of its records. Rows are written from the last one back: each function here
 // writes the rows that end before row `end`, and answers the row where they begin.
+#![tactic(auto)]
+
 ghost use Rattle.std.specs.Prelude.{◌≡◌};
 ghost use Rattle.machine.specs.Layout.{size_of, rows_of};
 ghost use Rattle.code_rows.specs.Emits.{Asks, Lays, fresh_size, fresh_rows, repeats_size, repeats_rows};

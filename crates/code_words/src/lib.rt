@@ -1,4 +1,6 @@
 // Rows as words: one row is written before row `end`, and the answer is the row where it begins.
+#![tactic(auto)]
+
 ghost use Rattle.std.specs.Prelude.{◌≡◌, ◌∷◌, ◌++◌, ◌+◌, ◌-◌, ◌*◌, ◌≤◌, ◌<◌, length, take, drop};
 ghost use Rattle.meaning.specs.Limits.{row_words};
 ghost use Rattle.machine.specs.Kinds.{consume_kind};

@@ -1,4 +1,6 @@
 // Fields of a line as numbers: a captured span is read, and gates say whether what was read passes.
+#![tactic(auto)]
+
 ghost use Rattle.std.specs.Prelude.{◌≡◌, not, ◌-◌, ◌^◌, ◌≤◌, ◌<◌, T, pos, length, drop};
 ghost use Rattle.std.proofs.Math.Option.{none, some};
 ghost use Rattle.std.specs.Float.Ieee.{is_nan};

@@ -1,4 +1,6 @@
 // What the intake program writes, as bytes into a lent buffer, and where its lines end.
+#![tactic(auto)]
+
 ghost use Rattle.std.specs.Prelude.{◌≡◌, [], ◌∷◌, ◌+◌, ◌*◌, ◌≤◌, ◌<◌, nat_abs, length, take};
 ghost use Rattle.intake_report.specs.Texts.{decimal, shown_number, spans_line, two_numbers};
 ghost use Rattle.intake_report.specs.Texts.{header_line, refused_at, refused_run, none_line};

@@ -60,7 +60,9 @@ module _ (allowed : Key → Bool) where
     where
       go : Dec (p.row < n) → (p.row < n → suc (free n (p ∷ s)) ≤ free n s) → suc (free (suc n) (p ∷ s)) ≤ free (suc n) s
       go (yes l) less = omega (arith, less l, missing_cons (at n false) p s, missing_cons (at n true) p s)
-      go (no l) less = let r : n ≡ p.row = omega arith in rw r (spend_last p.row p.flag s h e)
+      go (no l) less =
+          let P : ℕ → Type 0 = λ m. suc (free (suc m) (p ∷ s)) ≤ free (suc m) s in
+          subst⁻¹ P (let r : n ≡ p.row = omega arith in r) (spend_last p.row p.flag s h e)
 
 -- The keys that may be executed: those of so many rows that a test lets pass, at most `most` of them.
 pub record Keys : Type 0 where

@@ -1,6 +1,8 @@
 // The numbers of code, for the crates that write it and those that run it. specs/Kinds.antt has the definitions.
 
 // The words of the header row: how many rows and how many groups.
+#![tactic(auto)]
+
 pub const ROWS: usize = 0;
 
 pub const GROUPS: usize = 1;

@@ -1,6 +1,8 @@
 // From a pattern's bytes to a table of its records, or to the outline's refusal: readers of alternatives, of sequences and of
 // atoms call one another in a cycle.
 
+#![tactic(auto)]
+
 ghost use Rattle.std.specs.Prelude.{◌≡◌, false, ◌-◌, ◌*◌, ◌≤◌, take};
 ghost use Rattle.meaning.specs.Limits.{depth_limit};
 ghost use Rattle.table.specs.Table.{record_words};

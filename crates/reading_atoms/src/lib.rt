@@ -1,4 +1,6 @@
 // The readers of a pattern's escapes, classes and quantifiers, each equal to its definition in specs/.
+#![tactic(auto)]
+
 mod braces;
 mod byte_sets;
 mod chars;

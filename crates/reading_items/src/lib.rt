@@ -1,5 +1,7 @@
 // The readers of a pattern's smaller pieces: items that hold no other part, what a `(` opens, what stands behind a part, and
 // parts in a row.
+#![tactic(auto)]
+
 mod leaves;
 mod openings;
 mod parts;

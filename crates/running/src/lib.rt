@@ -1,4 +1,6 @@
 // A run: one position after the other is settled, until no thread is queued for the next.
+#![tactic(auto)]
+
 ghost use Rattle.std.specs.Prelude.{◌≡◌, ◌+◌, ◌<◌, ◌≤◌, length};
 ghost use Rattle.meaning.specs.Text.{byte_before, byte_after};
 ghost use Rattle.meaning.specs.Limits.{position_limit, workspace_words};

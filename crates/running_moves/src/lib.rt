@@ -1,4 +1,6 @@
 // What a row does to a thread, read from the code's words and the bytes beside a position.
+#![tactic(auto)]
+
 ghost use Rattle.std.specs.Prelude.{◌≡◌, ◌+◌, ◌*◌, ◌<◌, ◌≤◌, length};
 ghost use Rattle.std.proofs.Math.Option.{none};
 ghost use Rattle.sets.specs.Sets.{between, has, is_word};

@@ -1,4 +1,6 @@
 // One position is settled: its threads run until none is active, from the byte before it and the byte after it alone.
+#![tactic(auto)]
+
 ghost use Rattle.std.specs.Prelude.{◌+◌, ◌<◌, length};
 ghost use Rattle.meaning.specs.Limits.{position_limit};
 ghost use Rattle.running_moves.specs.Chosen.{Ranged};

@@ -1,4 +1,6 @@
 // The threads of a run, in the words of its workspace (WORKSPACE.md has the layout).
+#![tactic(auto)]
+
 ghost use Rattle.std.specs.Prelude.{◌≡◌, ◌+◌, ◌-◌, ◌<◌, ◌≤◌, length, set};
 ghost use Rattle.meaning.specs.Limits.{word_limit};
 ghost use Rattle.running_threads.specs.Words.{Below, Clear, Pasted, Spread};
@@ -8,7 +10,7 @@ ghost use Rattle.running_threads.specs.Held.{Frame, Laid, Runs, Tags, Stack, put
 pub const NOWHERE: u32 = 4294967295;
 
 // Where things lie, for `rows` rows and `width` registers to a thread.
-#[derive(Drop)]
+#[derive(Clone, Copy)]
 pub struct Plan {
     pub rows: usize,
     // How many keys there are: a key is row * 2 + flag.
@@ -24,7 +26,7 @@ pub struct Plan {
 }
 
 // A position, the bytes beside it, and where its threads and its queue lie.
-#[derive(Drop)]
+#[derive(Clone, Copy)]
 pub struct Spot {
     pub position: usize,
     pub before: u32,
@@ -39,7 +41,7 @@ pub struct Spot {
 }
 
 // A frame that was taken off the stack, if `go`.
-#[derive(Drop)]
+#[derive(Clone, Copy)]
 pub struct Off {
     pub go: bool,
     pub key: usize,
@@ -47,7 +49,7 @@ pub struct Off {
 }
 
 // The first active thread, if `go`: its key and where its registers are, with what is left: threads from index on, and frames.
-#[derive(Drop)]
+#[derive(Clone, Copy)]
 pub struct Taken {
     pub go: bool,
     pub key: usize,

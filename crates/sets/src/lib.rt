@@ -1,4 +1,6 @@
 // Sets of bytes: 256 bits in eight words. Each contract says which bytes the answer holds, for all 256 at once.
+#![tactic(auto)]
+
 ghost use Rattle.std.specs.Prelude.{◌≡◌, true, false, not, ◌||◌, ◌<◌, eqb};
 ghost use Rattle.sets.specs.Sets.{Holds, has, same_bytes, between, is_dot, in_escape};
 

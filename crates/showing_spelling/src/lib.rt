@@ -1,5 +1,7 @@
 // The one spelling of a byte, a byte set, an assertion and a quantifier. Texts are written from their last byte back: each
 // function here writes before place `end` of a lent buffer and answers where its text begins; 0 says that room was missing.
+#![tactic(auto)]
+
 ghost use Rattle.std.specs.Prelude.{◌≡◌, [], ◌∷◌, ◌≤◌, ◌<◌, ◌/◌, ◌%◌, length};
 ghost use Rattle.sets.specs.Sets.{has, between};
 ghost use Rattle.meaning.specs.Limits.{last_assertion};

@@ -1,4 +1,6 @@
 // The table: the records of a pattern, 16 words each, a part after the parts inside it (docs/TABLE.md).
+#![tactic(auto)]
+
 ghost use Rattle.std.specs.Prelude.{◌≡◌, ◌+◌, ◌-◌, ◌*◌, ◌<◌, ◌≤◌, min, max, length, take, drop, get_or};
 ghost use Rattle.std.proofs.Math.Seq.{paste};
 ghost use Rattle.meaning.specs.Node.{lower};

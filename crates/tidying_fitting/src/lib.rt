@@ -1,5 +1,7 @@
 // Whether a law of the tidier fits a part of a pattern that stands as records in a table (docs/TABLE.md). A part's own record
 // stands right below the record number at which its records end, `top`, on the parts inside it.
+#![tactic(auto)]
+
 use table::{HIGHEST, ITEMS, KIND, LAZY, LEAST, MOST, RECORDS, word};
 use tidying_laws::{T1, T2, T3, T4, T5, T6, T7, T8, T9, T10};
 

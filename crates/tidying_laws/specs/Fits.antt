@@ -8,10 +8,10 @@ use Rattle.meaning.specs.Node.{Node, Node.empty, Node.bset}
 use Rattle.meaning.specs.Results.{or_else}
 use Rattle.tidying_laws.specs.Choices.{any}
 use Rattle.tidying_laws.specs.Groups.{group_free}
-use Rattle.tidying_laws.specs.Void.{no_bytes}
+use Rattle.tidying_laws.specs.Void.{void, no_bytes}
 use Rattle.tidying_laws.specs.Equal.{same, same_refl}
-use Rattle.meaning.specs.Flat.{Kind, Kind.sequence, Kind.alternation, parts, items, of_alternatives}
-use Rattle.tidying_laws.specs.Laws.{two, on_parts, on_alternatives, is_empty, is_void, distinct, possible, impossible}
+use Rattle.meaning.specs.Flat.{Kind, Kind.sequence, Kind.alternation, parts, items, of_items, of_alternatives}
+use Rattle.tidying_laws.specs.Laws.{two, on_parts, on_alternatives, when, is_empty, is_void, filled, distinct, possible, impossible}
 use Rattle.tidying_laws.specs.Laws.{first_set, run, shared_at, share}
 use Rattle.tidying_laws.specs.Laws.{t1, t2, t3, t4, t5, t6, t7, t8, t9, t10}
 use Rattle.tidying_laws.specs.Lists.{any_has}
@@ -47,7 +47,7 @@ on_list k L f h r q w = let (m, many, x, e) = w in from (parts k r) many (h (par
     from (r ∷ q ∷ l) h s = s
 
 pub t1_fits : (r q : Node) → OnParts sequence EmptyItem r q → IsSome (t1 r)
-t1_fits = on_list sequence EmptyItem _ (λ l m h. let (a, b, e, o) = h in
+t1_fits = on_list sequence EmptyItem (λ l. when (any is_empty l) (of_items (filled l))) (λ l m h. let (a, b, e, o) = h in
     rw (e, any_has is_empty a b empty (same_refl empty)) tt)
 
 pub t2_fits : (r q : Node) → OnceOrNever r q → IsSome (t2 r)
@@ -88,7 +88,7 @@ equal_fits seen (q ∷ a) b m r p = let l : List Node = a ++ r ∷ (b ++ r ∷ m
     (some_map (λ l. q ∷ l) (distinct (q ∷ seen) l) (equal_fits (q ∷ seen) a b m r p))
 
 pub t6_fits : (r q : Node) → OnParts alternation EqualAlternative r q → IsSome (t6 r)
-t6_fits = on_list alternation EqualAlternative _ (λ l m h. let (a, b, c, p, e, g, f) = h in
+t6_fits = on_list alternation EqualAlternative (λ l. map of_alternatives (distinct [] l)) (λ l m h. let (a, b, c, p, e, g, f) = h in
     rw e (some_map of_alternatives (distinct [] (a ++ p ∷ (b ++ p ∷ c))) (equal_fits [] a b c p g)))
 
 void_fits : (a b : List Node) (s : List ℕ) → no_bytes s ≡ true → IsSome (possible (a ++ bset s ∷ b))
@@ -100,10 +100,10 @@ void_fits (q ∷ a) b s h = let l : List Node = a ++ bset s ∷ b in
 
 pub t7_fits : (r q : Node) → EmptySet r q → IsSome (t7 r)
 t7_fits r q (inl h) = some_first (on_alternatives possible r) (impossible r)
-    (on_list alternation VoidAlternative _ (λ l m h. let (a, b, v, f) = h in let (s, e, n) = v in
+    (on_list alternation VoidAlternative (λ l. map of_alternatives (possible l)) (λ l m h. let (a, b, v, f) = h in let (s, e, n) = v in
     rw e (some_map of_alternatives (possible (a ++ bset s ∷ b)) (void_fits a b s n))) r q h)
 t7_fits r q (inr h) = some_else (on_alternatives possible r) (impossible r)
-    (on_list sequence VoidItem _ (λ l m g. let (a, b, v, f) = g in let (s, e, n) = v in
+    (on_list sequence VoidItem (λ l. when (group_free r && any is_void l) (bset void)) (λ l m g. let (a, b, v, f) = g in let (s, e, n) = v in
     rw (h.0, e, any_has is_void a b (bset s) n) tt) r q h.1)
 
 -- T8 finds something to share where two adjacent alternatives begin with the same set, first of all at the first two.
@@ -121,6 +121,6 @@ share_fits (x ∷ a) b p q s h g = let t : List Node = a ++ p ∷ q ∷ b in
     (some_map (λ m. x ∷ m) (share t) (share_fits a b p q s h g))
 
 pub t8_fits : (r q : Node) → OnParts alternation SameFirst r q → IsSome (t8 r)
-t8_fits = on_list alternation SameFirst _ (λ l m h.
+t8_fits = on_list alternation SameFirst (λ l. map of_alternatives (share l)) (λ l m h.
     let (a, b, p, q, run, s, e, leads, left, stop, f) = h in
     rw e (some_map of_alternatives (share (a ++ p ∷ q ∷ (run ++ b))) (share_fits a (run ++ b) p q s leads.0 leads.1.0)))

@@ -1,7 +1,7 @@
 -- T8 keeps what a law must: a run of alternatives whose first item is the same byte set shares it.
 use Rattle.std.specs.Prelude.{◌≡◌, refl, cond, ℕ, ◌+◌, ◌≤◌}
 use Rattle.std.proofs.Math.Path.{sym, ap}
-use Rattle.std.proofs.Common.{subst, ◌∙◌, arith}
+use Rattle.std.proofs.Common.{subst, ◌∙◌, ap₂, arith}
 use Rattle.std.proofs.Math.Option
 use Rattle.std.proofs.Math.Option.{Option, none, some}
 use mathlib.Core.List.{List, [], ◌∷◌, ◌++◌, map, append_assoc}
@@ -137,10 +137,14 @@ module _ {B : Type 0} (w : Input) (c : State → Option B) (x : State) (s : List
   unfolding results
   set_first q = first_only c (results w q) (fits w s x.pos) (moved x)
 
+  set_led : (l : List Node) → led w c x s l ≡ first_some (λ q. cond (fits w s x.pos) (tried w c (moved x) q) none) l
+  set_led [] = refl
+  set_led (q ∷ l) = ap₂ or_else (set_first q) (set_led l)
+
   led_glued : Fair w → x.pos ≤ size w → (p : Node) (l : List Node)
       → led w c x s (p ∷ l) ≡ tried w c x (seq (bset s) (glues p l))
   led_glued fair hx p l =
-      simp set_first (guarded (fits w s x.pos) (tried w c (moved x)) (p ∷ l))
+      set_led (p ∷ l) ∙ guarded (fits w s x.pos) (tried w c (moved x)) (p ∷ l)
       ∙ ap (λ o. cond (fits w s x.pos) o none) (sym (tries w c (moved x) (p ∷ l) (omega arith)))
       ∙ sym (set_first (link alternation p l)) ∙ sym ((order_seq (order_refl (bset s)) (glues_link p l)).order w fair B c x hx)
 

@@ -1,4 +1,6 @@
 // The numbers of the tidier's laws, in the order of specs/List.antt, and how many there are.
+#![tactic(auto)]
+
 pub const T1: u32 = 1;
 
 pub const T2: u32 = 2;

@@ -1,5 +1,7 @@
 // The primitive edits of a table of records: whole records go, come, and say something else. What a record says by itself is its
 // token; the words that are derived of its parts are stale after an edit, and one pass writes them anew.
+#![tactic(auto)]
+
 ghost use Rattle.std.specs.Prelude.{◌≡◌, ◌+◌, ◌-◌, ◌*◌, ◌<◌, ◌≤◌, length};
 ghost use Rattle.table.specs.Table.{record_words};
 ghost use Rattle.tidying_shapes.specs.Skeleton.{token_of};

@@ -34,8 +34,8 @@ module _ {A : Type 0} where
   pub front_run : {d l x : List A} {n : ℕ} (vs : List A) → Front d l x n → n + length vs ≤ length d
       → Front d (sets l n vs) (x ++ vs) (n + length vs)
   front_run {x = x} [] f h = front_as f (sym (append-nil x)) (omega arith)
-  front_run {x = x} {n} (v ∷ vs) f h =
-      front_as (front_run vs (front_as (front_more f v (omega arith)) refl (add-one n)) (omega arith))
+  front_run {d = d} {l = l} {x = x} {n = n} (v ∷ vs) f h =
+      front_as (front_run {l = set l n v} vs (front_as (front_more f v (omega arith)) refl (add-one n)) (omega arith))
       (append_assoc x (v ∷ []) vs) (omega arith)
 
   -- The length is kept.

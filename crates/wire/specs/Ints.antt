@@ -26,7 +26,7 @@ int_machine w = by (ltb w (2 ^ 31))
 
 -- Both ways round, and within the width.
 pub int_back : (z : ℤ) → mag z < 2 ^ 31 → int_of (bits_of z) ≡ z
-int_back z h = int_machine (bits_of z) ∙ ap (to_z w32) (bits_machine z) ∙ to_z-of_z (record { sfits = h })
+int_back z h = int_machine (bits_of z) ∙ ap (to_z w32) (bits_machine z) ∙ to_z-of_z {w = w32} (record { sfits = h })
 
 pub bits_back : (w : ℕ) → w < 2 ^ 32 → bits_of (int_of w) ≡ w
 bits_back w h = bits_machine (int_of w) ∙ ap (of_z w32) (int_machine w) ∙ of_z-to_z {w = w32} (record { fits = h })

@@ -1,4 +1,6 @@
 // Words of 32 bits as bytes, four to a word, low byte first: how a program in another language hands words over.
+#![tactic(auto)]
+
 ghost use Rattle.std.specs.Prelude.{◌≡◌, ◌+◌, ◌*◌, ◌≤◌, ◌<◌, length};
 ghost use Rattle.std.proofs.lemmas.List.Edits.{sets};
 ghost use Rattle.wire.specs.Wire.{word_of4, words_of, bytes_of_word, bytes_of_words, bits_of, int_of, bytes_of_ints, ints_of};

@@ -1,0 +1,74 @@
+use mathlib.Core.Path.{◌∙◌}
+use mathlib.Core.Logic.{inl}
+use native.Mathlib.Omega.{arith}
+use borrow.Author.Tests.{not-true, not-false}
+use Rattle.running_threads.specs.Laws.{laid_len}
+use Rattle.running_settle.specs.Reached.{opened, first_key, turning}
+use Rattle.running_settle.specs.Settling.{Over, Next, turned, copy_fits, won, taken, none_left, less_left}
+use Rattle.running_settle.proofs.settle.Goals.{After-execute-done, After-take-next}
+use Rattle.running_settle.proofs.settle.Goals as goal
+
+module _ (c : After-execute-done) where
+  over : Over c.args.code.now c.args.plan c.args.spot c.args.work.now
+      c.loop-spot.work c.loop-spot.key c.loop-spot.index c.loop-spot.turn c.execute-done.new.work c.execute-done.result
+  over = record {
+    laid = c.requires.laid.0;
+    reached = c.loop-spot.invariant.0;
+    long = c.execute-done.auto.work;
+    executed = c.execute-done.ensures;
+  }
+
+module _ (c : After-take-next) where
+  next : Next c.args.code.now c.args.plan c.args.spot
+      c.args.work.now c.execute-done.new.work c.loop-spot.index c.execute-done.result
+      c.take-next.new.work c.take-next.result
+  next = record {
+    laid = (over (goal.at.After-take-next c).After-execute-done).laid;
+    reached = turned (over (goal.at.After-take-next c).After-execute-done) c.if-done.false;
+    long = c.take-next.auto.work;
+    took = c.take-next.ensures;
+  }
+
+pub loop-spot-init : goal.loop-spot-init
+loop-spot-init c =
+    rw c.wide-key.ensures.0 (opened c.args.code.now c.requires.laid.0 c.requires.laid.1, first_key c.args.code.now c.requires.laid.0 c.requires.laid.1)
+
+pub execute-done-requires : goal.execute-done-requires
+execute-done-requires c =
+    (c.requires.ready.0, c.requires.ready.1, turning c.requires.laid.0 c.loop-spot.invariant.0 c.loop-spot.invariant.1)
+
+-- A turn that wins.
+pub copy-requires : goal.copy-requires
+copy-requires c =
+    let fits = copy_fits (over (goal.at.copy-requires c).After-execute-done) in
+    (fits.0, fits.1, inl fits.2)
+
+pub shape_of-work-then-done : goal.shape_of-work-then-done
+shape_of-work-then-done c =
+    let turn = over (goal.at.shape_of-work-then-done c).After-execute-done in
+    c.copy.auto.work ∙ turn.long ∙ turn.reached.long
+
+pub returns-then-done : goal.returns-then-done
+returns-then-done c =
+    won (over (goal.at.returns-then-done c).After-execute-done) c.if-done.true c.copy.auto.work c.copy.ensures
+
+-- A turn that does not.
+pub take-next-requires : goal.take-next-requires
+take-next-requires c =
+    let turn = over (goal.at.take-next-requires c).After-execute-done in
+    let done = turned turn c.if-done.false in
+    record { laid = (laid_len done.long turn.laid, done.runs, omega (arith, done.deep)); tags = (done.tags, done.active) }
+
+pub shape_of-work-then-not-next : goal.shape_of-work-then-not-next
+shape_of-work-then-not-next c = let last = next (goal.at.shape_of-work-then-not-next c).After-take-next in last.long ∙ last.reached.long
+
+pub returns-then-not-next : goal.returns-then-not-next
+returns-then-not-next c = none_left (next (goal.at.returns-then-not-next c).After-take-next) (not-true _ c.if-not-next.true)
+
+pub loop-spot-smaller : goal.loop-spot-smaller
+loop-spot-smaller c =
+    less_left (over (goal.at.loop-spot-smaller c).After-execute-done) (next (goal.at.loop-spot-smaller c).After-take-next) (not-false _ c.if-not-next.false)
+
+pub loop-spot-preserved : goal.loop-spot-preserved
+loop-spot-preserved c =
+    (taken (next (goal.at.loop-spot-preserved c).After-take-next) (not-false _ c.if-not-next.false), c.take-next.ensures.low)
