@@ -17,7 +17,7 @@ ghost use Rattle.tidying_fitting.specs.Words.{own_of, start_of};
 
 // What a part's own record says: its kind, how many records and items it has, its highest group, and a quantifier's
 // counts and laziness.
-#[derive(Drop)]
+#[derive(Clone, Copy)]
 pub struct Record {
     pub kind: u32,
     pub records: u32,
@@ -30,7 +30,7 @@ pub struct Record {
 
 // What a law looks for among the parts of a series: T1 an empty item, T6 an alternative without groups that equals an
 // earlier one, T7 a set with no byte, T8 an alternative whose first item is the byte set that its left neighbour begins with.
-#[derive(Drop)]
+#[derive(Clone, Copy)]
 pub enum Want {
     Empty,
     Equal,

@@ -13,8 +13,8 @@ module _ (c : After-plan_of-plan) where
   begins = record {
     ready = c.requires.ready.0;
     low = c.requires.ready.1;
-    within = c.requires.start_in_bounds.0.0;
-    short = c.requires.start_in_bounds.0.1;
+    within = c.requires.start_in_bounds.0;
+    short = c.requires.start_in_bounds.1;
     planned = c.plan_of-plan.ensures;
   }
 
@@ -33,7 +33,7 @@ pub prepare-requires : goal.prepare-requires
 prepare-requires c =
     let b = begins (goal.at.prepare-requires c).After-plan_of-plan in
     let fits = plan_fits b.planned in
-    (b.planned.planned, omega (arith, b.low, b.planned.serves.rows), omega (arith, c.requires.start_in_bounds.1))
+    (b.planned.planned, omega (arith, b.low, b.planned.serves.rows), omega (arith, c.requires.code_in_bounds))
 
 pub first_spot-spot-requires : goal.first_spot-spot-requires
 first_spot-spot-requires c = (begins (goal.at.first_spot-spot-requires c).After-plan_of-plan).planned.planned
@@ -41,9 +41,8 @@ first_spot-spot-requires c = (begins (goal.at.first_spot-spot-requires c).After-
 pub loop-spot-init : goal.loop-spot-init
 loop-spot-init c =
     let b = begins (goal.at.loop-spot-init c).After-plan_of-plan in
-    let space = (start (goal.at.loop-spot-init c).After-plan_of-plan).requires.start_in_bounds.1 in
     rw c.first_spot-spot.ensures
-    (course_first b (omega (arith, plan_fits b.planned, c.prepare.kept.0, space)) c.prepare.ensures
+    (course_first b (omega (arith, plan_fits b.planned, c.prepare.auto.work, c.requires.code_in_bounds)) c.prepare.ensures
     (record { before = c.byte_before.ensures; after = c.byte_after.ensures }))
 
 pub settle-turn-requires : goal.settle-turn-requires
@@ -57,7 +56,7 @@ overflow_add-count c = omega (arith, count_fits (settled (goal.at.overflow_add-c
 pub shape_of-work-then-queued-eq0 : goal.shape_of-work-then-queued-eq0
 shape_of-work-then-queued-eq0 c =
     let d = settled (goal.at.shape_of-work-then-queued-eq0 c).After-settle-turn in
-    d.long ∙ d.course.long ∙ c.prepare.kept.0
+    d.long ∙ d.course.long ∙ c.prepare.auto.work
 
 pub returns-then-queued-eq0 : goal.returns-then-queued-eq0
 returns-then-queued-eq0 c =

@@ -4,12 +4,7 @@ use Rattle.tidying_fitting.specs.Fitting.{fits}
 use Rattle.tidying_fitting.proofs.Told.{by_test}
 use Rattle.tidying_fitting.specs.Words.{is_over, t3_over}
 use mathlib.Core.Path.{sym}
-use borrow.Author.Rules.{rules}
-use Rattle.tidying_fitting.proofs.quantifiers.quantified_empty.Statement.{statement}
-use Rattle.tidying_fitting.proofs.quantifiers.quantified_empty.Tie as tie
+use Rattle.tidying_fitting.proofs.quantifiers.quantified_empty.Goals as goal
 
-returns : tie.Need-returns
+pub returns : goal.returns
 returns c = by_test (is_over empty_kind) (fits t3) (λ r. sym (t3_over r)) c.over.ensures
-
-pub quantified-empty-spec : {M : Type 1} → statement M
-quantified-empty-spec = tie.close (tie.spec (λ c κs. search rules) returns)
