@@ -22,7 +22,7 @@ returns-then-not-ranges-2 c = let outer = sym c.ranges-2.ensures ∙ not-false _
     (quantified_ranged c.args.least c.args.most
     c.own-outer.ensures outer)
     c.own-outer.ensures c.own-inner.ensures
-    (rw (outer, sym c.ranges-2.ensures ∙ not-true _ c.if-not-ranges-2.true-raw))
+    (rw (outer, sym c.ranges-3.ensures ∙ not-true _ c.if-not-ranges-2.true-raw))
 
 pub returns : goal.returns
 returns c = let outer = sym c.ranges-2.ensures ∙ not-false _
@@ -31,7 +31,7 @@ returns c = let outer = sym c.ranges-2.ensures ∙ not-false _
     (quantified_ranged c.args.least c.args.most
     c.own-outer.ensures outer)
     c.own-outer.ensures c.own-inner.ensures
-    (rw (outer, sym c.ranges-2.ensures ∙ not-false _ c.if-not-ranges-2.false-raw))
+    (rw (outer, sym c.ranges-3.ensures ∙ not-false _ c.if-not-ranges-2.false-raw))
 
 pub overflow_sub-top : goal.overflow_sub-top
 overflow_sub-top c = omega (arith, asked c.requires)

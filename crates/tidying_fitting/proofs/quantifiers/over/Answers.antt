@@ -1,4 +1,6 @@
 use mathlib.Core.Path.{refl}
+use lib.Dec.{eqb}
+use Rattle.table.specs.Laws.{kind_of}
 use native.Mathlib.Omega.{arith}
 use Prim.Native.Nat.{◌-◌}
 use lib.Dec.{eqb}
@@ -6,7 +8,7 @@ use Rattle.tidying_fitting.proofs.Told.{asked, quantified_kind, part_asked, on_q
 use Rattle.tidying_fitting.proofs.quantifiers.over.Goals as goal
 
 pub returns-then-outer-ne-QUANTIFIER : goal.returns-then-outer-ne-QUANTIFIER
-returns-then-outer-ne-QUANTIFIER c = off_kind _ c.own-outer.ensures c.if-outer-ne-QUANTIFIER.true
+returns-then-outer-ne-QUANTIFIER c = off_kind (λ r q. eqb (kind_of q) c.args.kind) c.own-outer.ensures c.if-outer-ne-QUANTIFIER.true
 
 pub own-inner-requires : goal.own-inner-requires
 own-inner-requires c = part_asked (quantified_kind c.own-outer.ensures c.if-outer-ne-QUANTIFIER.false)

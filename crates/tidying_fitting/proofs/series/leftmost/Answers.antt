@@ -23,7 +23,7 @@ pub loop-left-preserved : goal.loop-left-preserved
 loop-left-preserved c =
     let now : c.if-wanted.found ≡ cond c.wanted.result
     c.loop-left.end c.loop-left.found =
-    ⊎_elim (λ t. rw t.0.taken t.1) (λ t. rw t.0.left t.1) c.if-wanted.branch-raw in
+    ⊎_elim (λ t. rw t.if-wanted.true t.found-is) (λ t. rw t.if-wanted.false t.found-is) c.if-wanted.branch-raw in
     λ before r p. rw now (walk_more (c.loop-left.invariant before r p)
     c.loop-left-test.true c.wanted.ensures c.start-end.ensures)
 

@@ -30,7 +30,7 @@ returns-then-same_part c = record {
 
 pub start-end-requires-in-loop-left : goal.start-end-requires-in-loop-left
 start-end-requires-in-loop-left c = last_asked
-    (series_asked (c.loop-left.invariant c.requires.before c.requires.front c.requires.new c.requires.series)
+    (series_asked (c.loop-left.invariant c.requires.before c.requires.front c.requires.last c.requires.series)
     c.loop-left-test.true)
 
 pub loop-left-preserved : goal.loop-left-preserved
