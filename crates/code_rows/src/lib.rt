@@ -24,7 +24,7 @@ use table::{
 const TURN_ROWS: usize = 4;
 
 // The rows of the part whose records end at `top`, by its kind; an empty part has none, and there is no other kind.
-#[cycle(alternation_alternative_fresh_group_part_quantifier_repeats_sequence_turn_turns)]
+#[cycle(writing)]
 fn part(table: &[u32], top: usize, code: &mut [u32], end: usize) -> usize
     requires { Asks size_of table.now top code.old end }
     ensures { Lays size_of rows_of table.now top code.old code.new result end }
@@ -42,7 +42,7 @@ fn part(table: &[u32], top: usize, code: &mut [u32], end: usize) -> usize
 }
 
 // A group: Open, the part inside it, Close.
-#[cycle(alternation_alternative_fresh_group_part_quantifier_repeats_sequence_turn_turns)]
+#[cycle(writing)]
 fn group(table: &[u32], top: usize, code: &mut [u32], end: usize) -> usize
     requires { Asks size_of table.now top code.old end × (word_of table.now top kind_word ≡ group_kind) }
     ensures { Lays size_of rows_of table.now top code.old code.new result end }
@@ -54,7 +54,7 @@ fn group(table: &[u32], top: usize, code: &mut [u32], end: usize) -> usize
 }
 
 // A sequence: its items, from the last one back.
-#[cycle(alternation_alternative_fresh_group_part_quantifier_repeats_sequence_turn_turns)]
+#[cycle(writing)]
 fn sequence(table: &[u32], top: usize, code: &mut [u32], end: usize) -> usize
     requires { Asks size_of table.now top code.old end × (word_of table.now top kind_word ≡ sequence_kind) }
     ensures { Lays size_of rows_of table.now top code.old code.new result end }
@@ -71,7 +71,7 @@ fn sequence(table: &[u32], top: usize, code: &mut [u32], end: usize) -> usize
 }
 
 // An alternation: its last alternative, and then the others, from the last of them back.
-#[cycle(alternation_alternative_fresh_group_part_quantifier_repeats_sequence_turn_turns)]
+#[cycle(writing)]
 fn alternation(table: &[u32], top: usize, code: &mut [u32], end: usize) -> usize
     requires { Asks size_of table.now top code.old end × (word_of table.now top kind_word ≡ alternation_kind) }
     ensures { Lays size_of rows_of table.now top code.old code.new result end }
@@ -89,7 +89,7 @@ fn alternation(table: &[u32], top: usize, code: &mut [u32], end: usize) -> usize
 }
 
 // An alternative that is not the last: Fork to it or past it, its part, Jump to row `out`, the end of the alternation.
-#[cycle(alternation_alternative_fresh_group_part_quantifier_repeats_sequence_turn_turns)]
+#[cycle(writing)]
 fn alternative(table: &[u32], top: usize, out: u32, code: &mut [u32], end: usize) -> usize
     requires { Asks alternative_size table.now top code.old end }
     ensures { Lays alternative_size (alternative_rows out) table.now top
@@ -101,7 +101,7 @@ fn alternative(table: &[u32], top: usize, out: u32, code: &mut [u32], end: usize
 }
 
 // A quantifier: the part as often as it must be, and then the turns that can be left out.
-#[cycle(alternation_alternative_fresh_group_part_quantifier_repeats_sequence_turn_turns)]
+#[cycle(writing)]
 fn quantifier(table: &[u32], top: usize, code: &mut [u32], end: usize) -> usize
     requires { Asks size_of table.now top code.old end × (word_of table.now top kind_word ≡ quantifier_kind) }
     ensures { Lays size_of rows_of table.now top code.old code.new result end }
@@ -121,7 +121,7 @@ fn quantifier(table: &[u32], top: usize, code: &mut [u32], end: usize) -> usize
 }
 
 // Reset of a part's groups, and the part.
-#[cycle(alternation_alternative_fresh_group_part_quantifier_repeats_sequence_turn_turns)]
+#[cycle(writing)]
 fn fresh(table: &[u32], top: usize, code: &mut [u32], end: usize) -> usize
     requires { Asks fresh_size table.now top code.old end }
     ensures { Lays fresh_size fresh_rows table.now top code.old code.new result end }
@@ -137,7 +137,7 @@ fn fresh(table: &[u32], top: usize, code: &mut [u32], end: usize) -> usize
 }
 
 // That n times.
-#[cycle(alternation_alternative_fresh_group_part_quantifier_repeats_sequence_turn_turns)]
+#[cycle(writing)]
 fn repeats(table: &[u32], top: usize, n: u32, code: &mut [u32], end: usize) -> usize
     requires { Asks (repeats_size n) table.now top code.old end }
     ensures { Lays (repeats_size n) (repeats_rows n) table.now top
@@ -153,7 +153,7 @@ fn repeats(table: &[u32], top: usize, n: u32, code: &mut [u32], end: usize) -> u
 }
 
 // A turn that can be left out: Fork, Begin, Reset, the part, End. It goes on at row `back`, or out to row `out`.
-#[cycle(alternation_alternative_fresh_group_part_quantifier_repeats_sequence_turn_turns)]
+#[cycle(writing)]
 fn turn(
     table: &[u32],
     top: usize,
@@ -177,7 +177,7 @@ fn turn(
 }
 
 // n turns that can be left out, each of which goes on at the next row, or out past the last.
-#[cycle(alternation_alternative_fresh_group_part_quantifier_repeats_sequence_turn_turns)]
+#[cycle(writing)]
 fn turns(table: &[u32], top: usize, lazy: bool, n: u32, code: &mut [u32], end: usize) -> usize
     requires { Asks (turns_size n) table.now top code.old end }
     ensures { Lays (turns_size n) (turns_of lazy end n) table.now top

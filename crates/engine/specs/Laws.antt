@@ -67,7 +67,7 @@ pub shown_more : (s : List ℕ) (from i : ℕ) (before now : List ℤ) (v : ℤ)
 shown_more s from i before now v h l e ev =
     let long : length (map shown_word (words_at s from i)) ≡ i = length-map (words_at s from i) shown_word
     ∙ words_length s from i (omega arith) in
-    let lf : i < length (drop from s) = simp lib.ListN.length_drop (omega arith) in
+    let lf : i < length (drop from s) = simp lib.ListN.length-drop (omega arith) in
     let more : words_at s from (i + 1) ≡ words_at s from i ++ (get_or s (from + i) 0 ∷ [])
     = rw add-one (take-suc (drop from s) i 0 lf)
     ∙ ap (λ (x : ℕ). take i (drop from s) ++ (x ∷ [])) (get_or-drop from s i 0) in
@@ -182,4 +182,4 @@ with_registers {code} {text} {start} {row} {before} {workspace = workspace} {lef
 
 -- a signed number is read back from its bits
 pub read_back : (z : ℤ) → mag z < position_limit → to_z w32 (of_z w32 z) ≡ z
-read_back z m = to_z-of_z (record { sfits = m })
+read_back z m = to_z-of_z {w = w32} (record { sfits = m })

@@ -1,4 +1,6 @@
 // The engine: a pattern's code matched at a position of a text, or searched from it on, in lent words alone.
+#![tactic(auto)]
+
 ghost use Rattle.std.specs.Prelude.{◌≡◌, ◌++◌, map, ◌+◌, ◌<◌, ◌≤◌, length, drop};
 ghost use Rattle.meaning.specs.Limits.{least_rows};
 ghost use Rattle.machine.specs.Steps.{search_row, match_row};

@@ -1,5 +1,7 @@
 // Carrying out a law of the tidier at a part of a pattern that stands as records in a table (docs/TABLE.md), in place. There are
 // `n` records, and those of the part end at record number `top`, its own the last. Answered is how many records are left.
+#![tactic(auto)]
+
 ghost use Rattle.std.specs.Prelude.{◌+◌, ◌*◌, ◌<◌, ◌≤◌, length};
 ghost use Rattle.table.specs.Table.{record_words};
 ghost use Rattle.tidying_laws.specs.Laws.{t1, t7};

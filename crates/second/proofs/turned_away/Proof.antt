@@ -14,13 +14,13 @@ use Rattle.second.proofs.turned_away.Statement.{statement}
 use Rattle.second.proofs.turned_away.Tie as tie
 
 fails : tie.Need-returns
-fails c = turned No.codeFails _ _ (tt, cc)
+fails c = turned No.code_fails _ _ (tt, cc)
 
 long : tie.Need-returns-2
-long c = turned No.longText _ _ ((cc, tt), omega (arith, lt-ltb))
+long c = turned No.long_text _ _ ((cc, tt), omega (arith, lt-ltb))
 
 beyond : tie.Need-returns-3
-beyond c = turned No.startBeyond _ _ ((cc, omega (arith, le-ltb)), omega (arith, lt-ltb))
+beyond c = turned No.start_beyond _ _ ((cc, omega (arith, le-ltb)), omega (arith, lt-ltb))
 
 rows-read : tie.Need-shared-slice-read-wide
 rows-read c =
@@ -33,7 +33,7 @@ groups-read c =
     omega (arith, (ready _ (sym checked.before.check.ensures ∙ not-false _ checked.if1.false)).size)
 
 few : tie.Need-returns-4
-few c = turned No.fewRegisters _ _ ((cc, omega (arith, le-ltb)), omega (arith, lt-ltb))
+few c = turned No.few_registers _ _ ((cc, omega (arith, le-ltb)), omega (arith, lt-ltb))
 
 -- What the check says, and what the words of a call come to.
 module _ (c : tie.Else4) where
@@ -67,7 +67,7 @@ small : tie.Need-returns-5
 small c =
     let n = c.before.before.before.before.wide in
     let g = c.before.before.wide2 in
-    turned No.smallWorkspace _ _
+    turned No.small_workspace _ _
     ((cc, omega (arith, le-ltb)), lt-ltb _ _ (rw (n.ensures.0, g.ensures.0) at c.if5.true))
 
 none : tie.Need-returns-6
