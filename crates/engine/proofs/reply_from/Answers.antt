@@ -14,7 +14,11 @@ pub run-ran-requires : goal.run-ran-requires
 run-ran-requires c =
     let w = allowed _ _ (sym c.turned_away-number.ensures ∙ c.if-number-ne0.false) in
     let R = ready _ w.passes in
-    ((R, omega (arith, R.least)), ((w.inside, omega (arith, w.short, text_small)), w.room))
+    record {
+      ready = (R, omega (arith, R.least));
+      start_in_bounds = (w.inside, omega (arith, w.short, text_small));
+      code_in_bounds = w.room;
+    }
 
 pub copy_out-requires : goal.copy_out-requires
 copy_out-requires c =

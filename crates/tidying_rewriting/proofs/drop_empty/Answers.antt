@@ -6,7 +6,7 @@ use Rattle.table.specs.Table.{record_words}
 use Rattle.tidying_rewriting.specs.Rewriting.{within}
 use Rattle.tidying_rewriting.specs.Filling.{one_filling, fills_all, filling_start, filling_gone, filling_kept}
 use Rattle.tidying_rewriting.specs.Filling.{item_there, item_few, filled_room}
-use Rattle.tidying_rewriting.proofs.drop_empty.Goals.{After-loop-left, At-loop-left, In-loop-left}
+use Rattle.tidying_rewriting.proofs.drop_empty.Goals.{After-loop-left, In-loop-left}
 use Rattle.tidying_rewriting.proofs.drop_empty.Goals as goal
 
 -- A turn has an item, and that is there.
@@ -38,13 +38,13 @@ pub overflow_sub-left : goal.overflow_sub-left
 overflow_sub-left c = omega arith
 
 pub word-requires : goal.word-requires
-word-requires c = omega (arith, there (goal.at.word-requires c).At-loop-left)
+word-requires c = omega (arith, there c)
 
 pub overflow_sub-end-then-word-eq-EMPTY : goal.overflow_sub-end-then-word-eq-EMPTY
-overflow_sub-end-then-word-eq-EMPTY c = omega (arith, there (goal.at.overflow_sub-end-then-word-eq-EMPTY c).At-loop-left)
+overflow_sub-end-then-word-eq-EMPTY c = omega (arith, there (goal.at.overflow_sub-end-then-word-eq-EMPTY c).In-loop-left)
 
 pub cut-count-requires : goal.cut-count-requires
-cut-count-requires c = omega (arith, there (goal.at.cut-count-requires c).At-loop-left)
+cut-count-requires c = omega (arith, there (goal.at.cut-count-requires c).In-loop-left)
 
 pub loop-left-smaller-then-word-eq-EMPTY : goal.loop-left-smaller-then-word-eq-EMPTY
 loop-left-smaller-then-word-eq-EMPTY c = omega arith
@@ -53,7 +53,7 @@ pub loop-left-preserved-then-word-eq-EMPTY : goal.loop-left-preserved-then-word-
 loop-left-preserved-then-word-eq-EMPTY c =
     (
       record {
-        by = λ before x y l m fit. filling_gone (c.loop-left.invariant.0.by before x y l m fit) (going (goal.at.loop-left-preserved-then-word-eq-EMPTY c).At-loop-left)
+        by = λ before x y l m fit. filling_gone (c.loop-left.invariant.0.by before x y l m fit) (going (goal.at.loop-left-preserved-then-word-eq-EMPTY c).In-loop-left)
             c.word.ensures c.if-word-eq-EMPTY.true c.cut-count.ensures;
       },
       c.cut-count.auto.table ∙ c.loop-left.invariant.1,
@@ -61,11 +61,11 @@ loop-left-preserved-then-word-eq-EMPTY c =
     )
 
 pub word-requires-in-loop-left : goal.word-requires-in-loop-left
-word-requires-in-loop-left c = omega (arith, there (goal.at.word-requires-in-loop-left c).After-word-left)
+word-requires-in-loop-left c = omega (arith, there (goal.at.word-requires-in-loop-left c).In-loop-left)
 
 pub overflow_sub-end-in-loop-left : goal.overflow_sub-end-in-loop-left
 overflow_sub-end-in-loop-left c =
-    item_few (one_filling c.requires c.loop-left.invariant.0) (going (goal.at.overflow_sub-end-in-loop-left c).After-word-left) c.word-in-loop-left.ensures
+    item_few (one_filling c.requires c.loop-left.invariant.0) (going (goal.at.overflow_sub-end-in-loop-left c).In-loop-left) c.word-in-loop-left.ensures
 
 pub loop-left-smaller : goal.loop-left-smaller
 loop-left-smaller c = omega arith
@@ -74,7 +74,7 @@ pub loop-left-preserved : goal.loop-left-preserved
 loop-left-preserved c =
     (
       record {
-        by = λ before x y l m fit. filling_kept (c.loop-left.invariant.0.by before x y l m fit) (going (goal.at.loop-left-preserved c).After-word-left)
+        by = λ before x y l m fit. filling_kept (c.loop-left.invariant.0.by before x y l m fit) (going (goal.at.loop-left-preserved c).In-loop-left)
             c.word.ensures c.if-word-eq-EMPTY.false c.word-in-loop-left.ensures;
       },
       c.loop-left.invariant.1,
