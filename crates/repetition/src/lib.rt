@@ -1,4 +1,6 @@
 // Every match in a text: code is searched again and again, as repeated execution with the global flag does.
+#![tactic(auto)]
+
 ghost use Rattle.std.specs.Prelude.{◌≡◌, [], ◌∷◌, map, ◌+◌, ◌<◌, ◌≤◌, length};
 ghost use Rattle.meaning.specs.Limits.{position_limit, text_limit, workspace_words};
 ghost use Rattle.machine.specs.Words.{rows_said, groups_said};

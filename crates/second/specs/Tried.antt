@@ -129,6 +129,7 @@ module _ (move : ℕ → Key → Move) where
   -- When it has ended, it has recorded o.
   pub ended : (M : Machine) (o : Option Regs) → Done M → Fine M o → best M ≡ o
   ended (machine i [] [] s b c) o d (now done done e) = e
+  ended (machine i [] [] s b c) o d (later {ρ = ρ} {Z = Z} x e) = elim x [ ]
   ended (machine i [] (t ∷ q) s b c) o d g = absurd d
   ended (machine i (t ∷ a) q s b c) o d g = absurd d
 

@@ -1,5 +1,7 @@
 // A plain second engine: an ordinary backtracking matcher that remembers which row and flag were tried at which position, and
 // never tries them twice. docs/SECOND.md walks through it.
+#![tactic(auto)]
+
 ghost use Rattle.std.specs.Prelude.{◌≡◌, true, ◌+◌, ◌<◌, ◌≤◌, length};
 ghost use Rattle.meaning.specs.Limits.{least_rows, second_limit, word_limit};
 ghost use Rattle.machine.specs.Steps.{search_row, match_row};
@@ -26,7 +28,7 @@ const UNTRIED: u32 = 0;
 
 // Where things lie in the workspace. First the marks, word position * rows * 2 + key, where a key is row * 2 + flag. Behind them
 // the registers of the thread that runs. Behind those the choices, the oldest first, each a key, a position and registers.
-#[derive(Drop)]
+#[derive(Clone, Copy)]
 pub struct Layout {
     // The text's length, how many rows, and how many registers a thread has.
     pub length: usize,
@@ -38,7 +40,7 @@ pub struct Layout {
 
 // The thread that runs: its key and its position. Beside it whether the search goes on, whether a thread won, how many choices
 // are stored, and the count of rows executed.
-#[derive(Drop)]
+#[derive(Clone, Copy)]
 pub struct Trial {
     pub going: bool,
     pub found: bool,

@@ -1,6 +1,8 @@
 // The tidier, over the table of a pattern's records (docs/TABLE.md), in place: the search for a law ends at the first place
 // found, the law is carried out there, and from the beginning again until none fits. `n` is how many records there are, and a
 // part is named by the record number at which its records end, `top`.
+#![tactic(auto)]
+
 ghost use Rattle.tidying_rewriting.specs.Carried.{Asked, Carries};
 ghost use Rattle.tidying.specs.Search.{SomeSought, Finds};
 ghost use Rattle.tidying.specs.Held.{SomeHeld, SomeFound, Steps, Tidies};

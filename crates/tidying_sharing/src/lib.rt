@@ -1,6 +1,8 @@
 // T8 carried out in a table of records (docs/TABLE.md), in place: the leftmost run of alternatives that begin with one byte set
 // shares it. Each of them loses the set, and what is left of them is one alternation, which follows the set in a sequence. The
 // alternatives are taken from the last one back, so that the records of those before stay as they are.
+#![tactic(auto)]
+
 ghost use Rattle.std.specs.Prelude.{◌≡◌, ◌+◌, ◌*◌, ◌≤◌, length};
 ghost use Rattle.table.specs.Table.{record_words};
 ghost use Rattle.tidying_laws.specs.Laws.{t8};

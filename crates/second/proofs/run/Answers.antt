@@ -1,0 +1,85 @@
+use Prim.Native.Nat.{ℕ, ◌+◌, ◌*◌, ◌<◌, ◌≤◌}
+use mathlib.Core.Path.{◌≡◌, ◌∙◌}
+use native.Mathlib.Omega.{arith}
+use borrow.Author.Tests.{not-true, not-false}
+use lib.ListN.{length, get_or}
+use Rattle.meaning.specs.Limits.{word_limit}
+use Rattle.second.specs.Held.{choice_at, Laid}
+use Rattle.second.specs.Choices.{choice_order, keys_small}
+use Rattle.second.specs.Course.{Begins, course_first, first_tail, course_next, last_found, last_none}
+use Rattle.second.proofs.run.Goals.{After-slice_known-3-1, Start}
+use Rattle.second.proofs.run.Goals as goal
+
+-- What is known at the start.
+module _ (c : Start) where
+  begins : Begins c.args.code.now c.args.text.now c.args.layout c.args.start c.args.row
+  begins = record { ready = c.requires.ready.0; serves = c.requires.ready.1; within = c.requires.start_in_bounds.0; low = c.requires.start_in_bounds.1 }
+
+  laid : Laid c.args.layout (length c.args.work.now)
+  laid = c.requires.ready.2
+
+  fits : c.args.layout.marks + c.args.layout.width ≤ length c.args.work.now
+  fits = omega (arith, choice_order c.args.layout 0 c.args.layout.marks (omega arith), laid.room)
+
+-- Where the loop begins.
+module _ (c : After-slice_known-3-1) where
+  same : length c.spread-2.new.work ≡ length c.args.work.now
+  same = c.spread-2.auto.work ∙ c.spread.auto.work
+
+  low : c.args.row * 2 + 2 < word_limit + 2
+  low = let b = begins (goal.at.After-slice_known-3-1 c).Start in omega (arith, b.low, b.serves.rows, keys_small (laid (goal.at.After-slice_known-3-1 c).Start))
+
+  tail : (i : ℕ) → choice_at c.args.layout c.args.layout.marks ≤ i
+      → get_or c.spread-2.new.work i 0 ≡ get_or c.args.work.now i 0
+  tail = first_tail c.args.layout c.spread.ensures c.spread-2.ensures
+
+pub spread-requires : goal.spread-requires
+spread-requires c = omega (arith, fits (goal.at.spread-requires c).Start)
+
+pub spread-requires-2 : goal.spread-requires-2
+spread-requires-2 c =
+    omega (arith, fits (goal.at.spread-requires-2 c).Start, c.spread.auto.work)
+
+pub overflow_mul-trial : goal.overflow_mul-trial
+overflow_mul-trial c = omega (arith, low c)
+
+pub overflow_add-trial : goal.overflow_add-trial
+overflow_add-trial c = omega (arith, low c)
+
+pub loop-trial-init : goal.loop-trial-init
+loop-trial-init c =
+    course_first (begins (goal.at.loop-trial-init c).Start) (laid (goal.at.loop-trial-init c).Start) c.spread.auto.work c.spread.ensures
+    c.spread-2.auto.work c.spread-2.ensures
+
+pub attempt-trial-requires : goal.attempt-trial-requires
+attempt-trial-requires c =
+    let b = begins (goal.at.attempt-trial-requires c).Start in
+    record { ready = (b.ready, b.serves); standing = (c.loop-trial.invariant.stands, c.loop-trial-test.true) }
+
+pub loop-trial-smaller : goal.loop-trial-smaller
+loop-trial-smaller c = c.attempt-trial.ensures.less
+
+pub loop-trial-preserved : goal.loop-trial-preserved
+loop-trial-preserved c =
+    course_next c.loop-trial.invariant c.attempt-trial.auto.work c.attempt-trial.ensures
+
+pub spread-requires-then-not-trial : goal.spread-requires-then-not-trial
+spread-requires-then-not-trial c =
+    omega (arith, fits (goal.at.spread-requires-then-not-trial c).Start, c.loop-trial.invariant.long, same (goal.at.spread-requires-then-not-trial c).After-slice_known-3-1)
+
+pub shape_of-work-then-not-trial : goal.shape_of-work-then-not-trial
+shape_of-work-then-not-trial c =
+    c.spread-then-not-trial.auto.work ∙ c.loop-trial.invariant.long ∙ same (goal.at.shape_of-work-then-not-trial c).After-slice_known-3-1
+
+pub returns-then-not-trial : goal.returns-then-not-trial
+returns-then-not-trial c =
+    last_none (begins (goal.at.returns-then-not-trial c).Start) c.loop-trial.invariant c.loop-trial-test.false (tail (goal.at.returns-then-not-trial c).After-slice_known-3-1)
+    (not-true _ c.if-not-trial.true) c.spread-then-not-trial.auto.work c.spread-then-not-trial.ensures
+
+pub shape_of-work-else-not-trial : goal.shape_of-work-else-not-trial
+shape_of-work-else-not-trial c = c.loop-trial.invariant.long ∙ same (goal.at.shape_of-work-else-not-trial c).After-slice_known-3-1
+
+pub returns-else-not-trial : goal.returns-else-not-trial
+returns-else-not-trial c =
+    last_found (begins (goal.at.returns-else-not-trial c).Start) c.loop-trial.invariant c.loop-trial-test.false (tail (goal.at.returns-else-not-trial c).After-slice_known-3-1)
+    (not-false _ c.if-not-trial.false)

@@ -1,0 +1,13 @@
+-- A set with what it has already is the same.
+use mathlib.Core.Path.{ap, ◌∙◌}
+use mathlib.Core.Bool.{Bool, ◌||◌}
+use mathlib.Core.List.{List}
+use Prim.Native.Nat.{ℕ}
+use Rattle.sets.specs.Sets.{has, same_bytes}
+use Rattle.sets.specs.Laws.{words_of, holds_to}
+use Rattle.showing_spelling.proofs.contains.Goals as goal
+
+pub returns : goal.returns
+returns c =
+    c.same.ensures ∙ ap (λ (u : List ℕ). same_bytes u c.args.set)
+    (words_of (holds_to c.union.ensures (λ x h. ap (λ (t : Bool). has c.args.set x || t) (c.escape.ensures.bytes x h))))

@@ -1,0 +1,11 @@
+-- Below ten it is a digit, else a letter.
+use borrow.Author.Tests.{lt-ltb, le-ltb}
+use Rattle.showing_spelling.proofs.hex_digit.Goals as goal
+
+pub returns-then-n-lt10 : goal.returns-then-n-lt10
+returns-then-n-lt10 c =
+    rw (lt-ltb c.args.n 10 c.if-n-lt10.true)
+
+pub returns-else-n-lt10 : goal.returns-else-n-lt10
+returns-else-n-lt10 c =
+    rw (le-ltb c.args.n 10 c.if-n-lt10.false)
