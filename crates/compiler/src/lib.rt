@@ -1,4 +1,6 @@
 // From a pattern's bytes to the code of its program, or to the outline's refusal: of the pattern as it was read, or tidied.
+#![tactic(auto)]
+
 ghost use Rattle.compiler.specs.Compiling.{plain, tidied, Compiles};
 ghost use Rattle.compiler.specs.Programs.{SomeStored, TellsRows, Shapes, Cleared, Programs};
 
