@@ -1,6 +1,8 @@
 // The calls that users link: patterns are compiled, code is matched and searched, by a second engine too, and `find` compiles and
 // searches; what was captured is read as a number, and gates say whether it passes. None asks anything of its arguments: what it
 // cannot do it refuses by the outline's number, and a refusal leaves behind what the outline says.
+#![tactic(auto)]
+
 ghost use Rattle.std.specs.Prelude.{◌≡◌};
 ghost use Rattle.machine.specs.Steps.{search_row, match_row};
 ghost use Rattle.compiler.specs.Compiling.{plain, tidied, Compiles};

@@ -1,4 +1,6 @@
 // Whether a table is of the form (docs/TABLE.md): the records of a tree, and zeros behind them.
+#![tactic(auto)]
+
 ghost use Rattle.std.specs.Prelude.{◌≡◌, cond, ◌+◌, ◌*◌, ◌<◌, ◌≤◌, eqb, length, get_or};
 ghost use Rattle.table.specs.Table.{record_words, size_word, size_cap, word_of};
 ghost use Rattle.table.specs.Derived.{record_limit};
