@@ -1,5 +1,7 @@
 // Millkettle for programs in other languages: numbers and byte slices, words as four bytes, low byte first. The header
 // millkettle.h says it in C.
+#![tactic(auto)]
+
 mod readings; // readings.rt: fields as numbers, and gates
 
 ghost use Rattle.std.specs.Prelude.{◌≡◌, true, false, cond, min};

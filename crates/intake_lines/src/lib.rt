@@ -1,5 +1,7 @@
 // The intake program's lines: a pattern line is compiled, a text line searched, and what is written for it goes to a
 // lent buffer.
+#![tactic(auto)]
+
 ghost use Rattle.std.specs.Prelude.{◌+◌, ◌≤◌, length};
 ghost use Rattle.intake_report.specs.Wrote.{Wrote};
 ghost use Rattle.intake_lines.specs.Intake.{line_for};

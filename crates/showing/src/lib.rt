@@ -1,4 +1,6 @@
 // A table shown as pattern bytes: what is answered. specs/Shown.antt says which it is, and what the room then holds.
+#![tactic(auto)]
+
 ghost use Rattle.std.specs.Prelude.{◌≡◌, cond, [], ◌∷◌, ◌*◌, ◌≤◌, ◌<◌, length};
 ghost use Rattle.meaning.specs.Limits.{last_assertion};
 ghost use Rattle.table.specs.Table.{record_words, operand_word, word_of, assertion_kind};
