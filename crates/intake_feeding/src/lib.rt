@@ -1,4 +1,6 @@
 // The intake's work on an input that comes in pieces: bytes are kept until their line ends, and its line is written to a buffer.
+#![tactic(auto)]
+
 ghost use Rattle.std.specs.Prelude.{◌≡◌, ◌+◌, ◌≤◌, min, length};
 ghost use Rattle.intake_lines.specs.Ended.{line_room};
 ghost use Rattle.intake_feeding.specs.Work.{kept_limit, last_bytes};

@@ -9,7 +9,7 @@ use Rattle.reading_atoms.specs.Places.{bytes_of}
 use Rattle.meaning.specs.Limits.{code_size, workspace_size}
 use Rattle.host.specs.Surface.{register_count, lent_words}
 use Rattle.host.specs.Laws.{first_of_lem, turns_away, runs_bytes}
-use Rattle.host.proofs.run_lent.Goals.{After-load_ints}
+use Rattle.host.proofs.run_lent.Goals.{Else-lent-gt-CODE_SIZE}
 use Rattle.host.proofs.run_lent.Goals as goal
 
 pub returns-then-lent-gt-CODE_SIZE : goal.returns-then-lent-gt-CODE_SIZE
@@ -37,13 +37,13 @@ store_ints-requires c =
     omega (arith, c.lent_words-used.ensures, first_of_lem {A = ℤ} c.lent_words-used.result register_count (pos 0) (omega (arith, c.lent_words-used.ensures)))
 
 -- The registers' bytes as they were lent.
-lent_bytes : (c : After-load_ints) → Bytes c.args.registers.now
+lent_bytes : (c : Else-lent-gt-CODE_SIZE) → Bytes c.args.registers.now
 lent_bytes c = bytes_of _ c.type_inv.registers
 
 pub returns : goal.returns
 returns c =
     let lent = lent_words (length c.args.code.now) in
-    runs_bytes _ _ _ _ _ (lent_bytes (goal.at.returns c).After-load_ints) c.if-lent-gt-CODE_SIZE.false c.load_words.ensures
+    runs_bytes _ _ _ _ _ (lent_bytes (goal.at.returns c).Else-lent-gt-CODE_SIZE) c.if-lent-gt-CODE_SIZE.false c.load_words.ensures
     (first_of_lem {A = ℕ} lent code_size 0 c.if-lent-gt-CODE_SIZE.false) c.load_ints.ensures
     (first_of_lem {A = ℤ} c.lent_words-used.result register_count (pos 0) (omega (arith, c.lent_words-used.ensures)) ∙ c.lent_words-used.ensures)
     (length-replicate {A = ℕ} workspace_size 0) c.answer_from-answer.ensures
