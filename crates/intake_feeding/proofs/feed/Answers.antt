@@ -49,6 +49,5 @@ shape_of-out c =
 
 pub returns : goal.returns
 returns c =
-    let same = wrote_length c.loop-fed.invariant.0.text_is in
-    let none = leb-false line_room (length c.loop-fed.out - c.loop-fed.fed.end) in record { feeds = feeding_ends c.loop-fed.invariant.0
-          (⊎_elim (λ w. inr (omega (arith, same, none w.2.left))) (λ w. inl w.left) c.loop-fed-test.branch-raw); untouched = c.loop-fed.invariant.1 }
+    let same = wrote_length c.loop-fed.invariant.0.text_is in record { feeds = feeding_ends c.loop-fed.invariant.0
+          (⊎_elim (λ w. inr (omega (arith, same, w.if-out-fed-ge-LINE_ROOM.false))) (λ w. inl w.loop-fed-test.false) c.loop-fed-test.branch-raw); untouched = c.loop-fed.invariant.1 }
