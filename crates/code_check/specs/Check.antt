@@ -15,8 +15,9 @@ use Rattle.machine.specs.Kinds.{accept_kind, consume_kind, jump_kind, fork_kind,
 use Rattle.machine.specs.Kinds.{assert_kind, header_used, first_word, second_word, fourth_word, listed, used}
 use Rattle.machine.specs.Words.{word_at, rows_said, groups_said, row_start, decode_row, row_in, rows_in, decode}
 use Rattle.machine.specs.Words.{row_passes, may_be_last, rows_pass, header_passes, header_clean, row_clean, code_clean, code_passes}
-use Rattle.machine.specs.Checked.{Checked, checked}
-use Rattle.machine.specs.Coded.{rows_in_length, rows_in_at}
+use Rattle.machine.specs.Checked.{Checked}
+use Rattle.machine.proofs.Checked.{checked}
+use Rattle.machine.proofs.Coded.{rows_in_length, rows_in_at}
 
 -- What the check asks of row q of code with n rows and g groups: its kind is listed, the row passes, and no word is set that
 -- it does not use.

@@ -19,7 +19,7 @@ use Rattle.reading.specs.Answers.{Reads, answer_of}
 use Rattle.reading.specs.declared.Reading.{Reading as Answer}
 use Rattle.reading.specs.declared.Reading.TheVariants.{Pattern, Refused as Turned}
 use Rattle.reading_grammar.specs.Grammar.{Derives}
-use Rattle.reading_grammar.specs.Sound.{sound}
+use Rattle.reading_grammar.proofs.Sound.{sound}
 use Rattle.tidying.specs.Held.{table_of}
 use Rattle.compiler.specs.Charged.{derived_charge}
 use Rattle.compiler.specs.Programs.{Stored, SomeStored}

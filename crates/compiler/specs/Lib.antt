@@ -2,4 +2,3 @@ pub mod Compiling
 pub mod Programs
 pub mod Charged
 pub mod Given
-pub mod Laws

@@ -15,17 +15,19 @@ use Rattle.meaning.specs.Bytes.{Bytes, text_of}
 use Rattle.meaning.specs.Node.{Node}
 use Rattle.meaning.specs.Standard.{search_from}
 use Rattle.machine.specs.Steps.{Done, search_row}
-use Rattle.machine.specs.Coded.{rows_in_length}
-use Rattle.machine.specs.Passed.{run_done}
+use Rattle.machine.proofs.Coded.{rows_in_length}
+use Rattle.machine.proofs.Passed.{run_done}
 use Rattle.machine.specs.Words.{rows_said, groups_said, rows_in, decode, code_passes}
 use Rattle.machine.specs.Replies.{run_of}
 use Rattle.machine.specs.Repetition.{found_from, executed_from, run_starts, repetition, executed_in, standard_all, list_words}
-use Rattle.machine.specs.Repeated.{Rising, starts_rise, starts_few, starts_inside, repeated_same, each_run}
-use Rattle.machine.specs.Once.{Once, each_once}
+use Rattle.machine.specs.Repeated.{Rising}
+use Rattle.machine.proofs.Repeated.{starts_rise, starts_few, starts_inside, repeated_same, each_run}
+use Rattle.machine.specs.Once.{Once}
+use Rattle.machine.proofs.Once.{each_once}
 use Rattle.running_moves.specs.Ready.{Ready, ready}
 use Rattle.reading_items.specs.Reading.{Reading.pattern, reading}
 use Rattle.reading_grammar.specs.Grammar.{Derives}
-use Rattle.reading_grammar.specs.Sound.{Sound, sound}
+use Rattle.reading_grammar.proofs.Sound.{Sound, sound}
 use Rattle.tidying_laws.specs.Tidier.{tidy}
 use Rattle.compiler.specs.Compiling.{plain, tidied, shaped, Compiles}
 use Rattle.compiler.specs.declared.Compilation.{Compilation}

@@ -9,19 +9,19 @@ use Rattle.meaning.specs.Node.{Node}
 use Rattle.machine.specs.Layout.{program_of}
 use Rattle.machine.specs.Laid.{program_stands}
 use Rattle.machine.specs.Words.{code_of}
-use Rattle.machine.specs.Coded.{code_length, compiled_whole}
+use Rattle.machine.proofs.Coded.{code_length, compiled_whole}
 use Rattle.reading_items.specs.Facts.{fair_proper}
 use Rattle.reading_items.specs.Read.{what_is_read}
 use Rattle.reading_items.specs.Reading.{Reading, Reading.pattern, Reading.refused, reading}
 use Rattle.reading_grammar.specs.Grammar.{Derives}
-use Rattle.reading_grammar.specs.Sound.{Sound, sound}
+use Rattle.reading_grammar.proofs.Sound.{Sound, sound}
 use Rattle.code_rows.specs.Emission.{rows_needed}
 use Rattle.compiler.specs.Compiling.{shaped, program_grounds, unwritten, answer_for, code_for, answer_by, code_left}
-use Rattle.compiler.specs.Laws.{is_shaped}
+use Rattle.compiler.proofs.Laws.{is_shaped}
 use Rattle.millkettle.specs.Compiled.{Coded, coded}
 use Rattle.wire.specs.Wire.{words_of, bytes_of_words, written}
 use Rattle.wire.specs.Words.{words_length}
-use Rattle.wire.specs.Written.{words_over, words_same}
+use Rattle.wire.proofs.Written.{words_over, words_same}
 use Rattle.host.specs.Surface.{compiled_numbers, code_lent, CompilesBytes}
 use Rattle.host.specs.declared.Compiled.{Compiled}
 use Rattle.demands.specs.Patterns.{derived_bytes}

@@ -10,7 +10,7 @@ use Rattle.meaning.specs.Node.{Node}
 use Rattle.reading_items.specs.Reading.{Reading, Reading.pattern, Reading.refused, reading}
 use Rattle.reading_grammar.specs.Refusals.{WrongEscape, WrongEscape.unknown, WrongEscape.left_out, Refuses, TurnedAway}
 use Rattle.reading_grammar.specs.Refusals.{Checks, Checks.long, Checks.small, Checks.high}
-use Rattle.reading_grammar.specs.First.{refused_first}
+use Rattle.reading_grammar.proofs.First.{refused_first}
 use Rattle.code_rows.specs.Emission.{rows_needed}
 use Rattle.compiler.specs.Compiling.{shaped, program_grounds, unwritten, answer_for, answer_by}
 use Rattle.compiler.specs.declared.Compilation.{Compilation}

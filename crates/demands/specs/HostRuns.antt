@@ -8,10 +8,10 @@ use Rattle.meaning.specs.Refusals as No
 use Rattle.meaning.specs.Grounds.{Ground, first_of, Tells, exactly_told, none_holds}
 use Rattle.machine.specs.Steps.{Machine, best, count}
 use Rattle.machine.specs.Words.{groups_said, decode}
-use Rattle.machine.specs.Width.{spans_length}
+use Rattle.machine.proofs.Width.{spans_length}
 use Rattle.machine.specs.Replies.{run_of, reply_to, values_of, registers_from, spans}
 use Rattle.wire.specs.Wire.{bytes_of_ints, written}
-use Rattle.wire.specs.Written.{ints_over, ints_same}
+use Rattle.wire.proofs.Written.{ints_over, ints_same}
 use Rattle.host.specs.Surface.{lent_words, all_words, all_ints, lent_to, byte_grounds, RunsBytes}
 use Rattle.host.specs.declared.Ran.{Ran}
 

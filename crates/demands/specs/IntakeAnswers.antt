@@ -22,12 +22,12 @@ use Rattle.meaning.specs.Node.{Node}
 use Rattle.meaning.specs.Standard.{search_from}
 use Rattle.machine.specs.Steps.{Machine, best, count, search_row}
 use Rattle.machine.specs.Words.{groups_said, decode}
-use Rattle.machine.specs.Width.{spans_length}
+use Rattle.machine.proofs.Width.{spans_length}
 use Rattle.machine.specs.Replies.{refusal, run_of, reply_to, reply, shown, spans, registers_from, registers_after}
 use Rattle.running_moves.specs.Ready.{Ready, ready}
 use Rattle.reading_items.specs.Reading.{reading}
 use Rattle.reading_grammar.specs.Grammar.{Derives}
-use Rattle.reading_grammar.specs.Sound.{Sound, sound}
+use Rattle.reading_grammar.proofs.Sound.{Sound, sound}
 use Rattle.compiler.specs.Compiling.{plain, answer_by, code_left}
 use Rattle.compiler.specs.declared.Compilation.TheVariants.{Rows}
 use Rattle.millkettle.specs.Compiled.{Coded, Compiled}

@@ -10,7 +10,7 @@ use Rattle.table.specs.Table.{record_words, records_word, word_of, record_count,
 use Rattle.table.specs.Laws.{long}
 use Rattle.table.specs.Stands.{Ends}
 use Rattle.table.specs.Roots.{root_records, some_records}
-use Rattle.tidying_shapes.specs.Told.{records_injective}
+use Rattle.tidying_shapes.proofs.Told.{records_injective}
 use Rattle.reading_items.specs.Reading.{Reading.pattern, table_by}
 
 -- A word of zeros is zero, behind them too.

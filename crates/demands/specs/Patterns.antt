@@ -13,9 +13,9 @@ use Rattle.meaning.specs.Bytes.{Bytes}
 use Rattle.reading_items.specs.Reading.{Reading, Reading.pattern, Reading.refused, reading}
 use Rattle.reading_grammar.specs.Grammar.{Derives}
 use Rattle.reading_grammar.specs.Refusals.{Checks.small, TurnedAway}
-use Rattle.reading_grammar.specs.Sound.{Sound, sound}
-use Rattle.reading_grammar.specs.Complete.{complete}
-use Rattle.reading_grammar.specs.First.{refused_first, first_refused, read_none}
+use Rattle.reading_grammar.proofs.Sound.{Sound, sound}
+use Rattle.reading_grammar.proofs.Complete.{complete}
+use Rattle.reading_grammar.proofs.First.{refused_first, first_refused, read_none}
 use Rattle.code_rows.specs.Emission.{rows_needed}
 use Rattle.compiler.specs.Compiling.{shaped, unwritten, answer_for, table_for, code_for, answer_by, table_left, code_left}
 use Rattle.compiler.specs.Compiling.{compilation, Compiles}

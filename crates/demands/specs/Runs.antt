@@ -9,8 +9,8 @@ use Rattle.meaning.specs.Bytes.{Bytes, text_of}
 use Rattle.meaning.specs.Limits.{least_rows}
 use Rattle.meaning.specs.Node.{Node}
 use Rattle.machine.specs.Steps.{Machine, best, count, seen, Done, steps, begun, first_thread, move_of}
-use Rattle.machine.specs.Passed.{run_done, run_at_position, run_frugal}
-use Rattle.machine.specs.Coded.{rows_in_length}
+use Rattle.machine.proofs.Passed.{run_done, run_at_position, run_frugal}
+use Rattle.machine.proofs.Coded.{rows_in_length}
 use Rattle.machine.specs.Words.{rows_said, groups_said, rows_in, decode}
 use Rattle.machine.specs.Allowed.{within, Allowed, allowed}
 use Rattle.running_moves.specs.Ready.{Ready, ready}
@@ -25,7 +25,7 @@ use Rattle.engine.specs.declared.Answer.{Answer}
 use Rattle.engine.specs.declared.Answer.TheVariants.{Found, Missing, Refused}
 use Rattle.millkettle.specs.Laws.{Way, Way.matching, Way.searching, row_of, standard_by, finds, conditions}
 use Rattle.reading_grammar.specs.Grammar.{Derives}
-use Rattle.reading_grammar.specs.Sound.{Sound, sound}
+use Rattle.reading_grammar.proofs.Sound.{Sound, sound}
 use Rattle.demands.specs.Patterns.{Replies, answered_exactly, derives, derived_bytes}
 
 -- Answers of one reply are the same, and a run's reply has its count.

@@ -8,7 +8,7 @@ use Rattle.meaning.specs.Text.{Regs, registers_of}
 use Rattle.meaning.specs.Bytes.{Bytes, text_of}
 use Rattle.meaning.specs.Node.{Node}
 use Rattle.machine.specs.Steps.{best, count}
-use Rattle.machine.specs.Coded.{rows_in_length}
+use Rattle.machine.proofs.Coded.{rows_in_length}
 use Rattle.machine.specs.Words.{rows_said, groups_said, rows_in, decode}
 use Rattle.machine.specs.Replies.{values_of, Lent, lend, lent_by, refusal, run_of, answer_of, reply_to, spans, registers_from}
 use Rattle.machine.specs.Replies.{registers_after}

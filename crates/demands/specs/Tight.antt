@@ -10,15 +10,15 @@ use Rattle.machine.specs.Steps.{count, seen, steps, begun, first_thread, move_of
 use Rattle.machine.specs.Layout.{program_of}
 use Rattle.machine.specs.Laid.{program_stands}
 use Rattle.machine.specs.Inner.{inner_rows, inner, Straight, RowsApart, fixed}
-use Rattle.machine.specs.Tight.{flag_of, tight_at_position, run_tight}
-use Rattle.machine.specs.Straight.{once, run_once, straight_pattern}
-use Rattle.machine.specs.Counted.{inner_rows_lem}
-use Rattle.machine.specs.Coded.{rows_in_length}
+use Rattle.machine.proofs.Tight.{flag_of, tight_at_position, run_tight}
+use Rattle.machine.proofs.Straight.{once, run_once, straight_pattern}
+use Rattle.machine.proofs.Counted.{inner_rows_lem}
+use Rattle.machine.proofs.Coded.{rows_in_length}
 use Rattle.machine.specs.Words.{rows_said, decode}
 use Rattle.machine.specs.Allowed.{within}
 use Rattle.machine.specs.Replies.{Lent, lent_by, turned_away, run_of}
 use Rattle.reading_grammar.specs.Grammar.{Derives}
-use Rattle.reading_grammar.specs.Sound.{Sound, sound}
+use Rattle.reading_grammar.proofs.Sound.{Sound, sound}
 use Rattle.compiler.specs.Compiling.{shaped, Compiles}
 use Rattle.compiler.specs.declared.Compilation.TheVariants.{Rows}
 use Rattle.engine.specs.Answers.{executed, Answered}

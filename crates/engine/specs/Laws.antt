@@ -13,8 +13,8 @@ use Rattle.meaning.specs.Bytes.{text_of}
 use Rattle.meaning.specs.Limits.{text_limit, position_limit, workspace_words, least_rows, row_limit, group_limit}
 use Rattle.machine.specs.Steps.{Machine, best, count}
 use Rattle.machine.specs.Words.{rows_said, groups_said, decode}
-use Rattle.machine.specs.Coded.{rows_in_length}
-use Rattle.machine.specs.Passed.{run_frugal}
+use Rattle.machine.proofs.Coded.{rows_in_length}
+use Rattle.machine.proofs.Passed.{run_frugal}
 use Rattle.machine.specs.Allowed.{allowed}
 use Rattle.machine.specs.Replies.{Lent, lent_by, refusal, run_of}
 use Rattle.machine.specs.Replies.{answer_of, reply_to, reply, shown, spans, registers_from, registers_after}

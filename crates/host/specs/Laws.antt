@@ -14,7 +14,7 @@ use Rattle.meaning.specs.Grounds.{ground, first_of, same_behind}
 use Rattle.machine.specs.Words.{rows_said, groups_said, decode, code_passes}
 use Rattle.machine.specs.Steps.{Machine, best, count}
 use Rattle.machine.specs.Allowed.{allowed}
-use Rattle.machine.specs.Width.{spans_length}
+use Rattle.machine.proofs.Width.{spans_length}
 use Rattle.machine.specs.Replies.{Reply.refused, Lent, lend, lent_by, refusal, reply_to, run_of, reply, spans, registers_from}
 use Rattle.machine.specs.Replies.{lent_grounds, registers_after}
 use Rattle.running_moves.specs.Ready.{ready}
@@ -27,8 +27,8 @@ use Rattle.millkettle.specs.Calls.Answer.{Found, Missing, Refused}
 use Rattle.millkettle.specs.Calls.Replies.{Seconded}
 use Rattle.wire.specs.Wire.{words_of, bytes_of_words, ints_of, bytes_of_ints, written}
 use Rattle.wire.specs.Words.{words_length}
-use Rattle.wire.specs.Ints.{ints_length}
-use Rattle.wire.specs.Written.{ints_over, ints_same}
+use Rattle.wire.proofs.Ints.{ints_length}
+use Rattle.wire.proofs.Written.{ints_over, ints_same}
 use Rattle.meaning.specs.Limits.{table_size, code_size, workspace_size}
 use Rattle.host.specs.Surface.{register_count, compiled_numbers, ran_numbers, lent_words, code_lent, all_words, all_ints}
 use Rattle.host.specs.Surface.{lent_to, byte_grounds, reply_lent, registers_lent}

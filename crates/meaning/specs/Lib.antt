@@ -7,7 +7,6 @@ pub mod Results
 pub mod Reach
 pub mod Numbering
 pub mod Standard
-pub mod Agrees
 pub mod Bytes
 pub mod Limits
 pub mod Refusals

@@ -10,14 +10,14 @@ use Rattle.meaning.specs.Numbering.{Numbers}
 use Rattle.machine.specs.Layout.{program_of}
 use Rattle.machine.specs.Laid.{program_stands}
 use Rattle.machine.specs.Words.{code_of, code_passes, decode, rows_said, groups_said}
-use Rattle.machine.specs.Coded.{compiled_code_passes, compiled_says, rows_in_length}
+use Rattle.machine.proofs.Coded.{compiled_code_passes, compiled_says, rows_in_length}
 use Rattle.reading_items.specs.Facts.{fair_proper}
 use Rattle.reading_items.specs.Read.{what_is_read}
 use Rattle.reading_items.specs.Reading.{Reading, Reading.pattern, Reading.refused, reading}
 use Rattle.code_rows.specs.Emission.{rows_needed}
 use Rattle.compiler.specs.Compiling.{shaped, program_grounds, unwritten, answer_for, code_for, answer_by, code_left}
 use Rattle.compiler.specs.Compiling.{compilation, code_at}
-use Rattle.compiler.specs.Laws.{Shaped, is_shaped}
+use Rattle.compiler.proofs.Laws.{Shaped, is_shaped}
 use Rattle.compiler.specs.declared.Compilation.TheVariants.{Rows, Refused}
 
 -- Code that says the program of a pattern of n rows and g groups, and passes.

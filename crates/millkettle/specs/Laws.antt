@@ -9,7 +9,7 @@ use Rattle.meaning.specs.Standard.{match_at, search_from}
 use Rattle.machine.specs.Steps.{run, best, match_row, search_row}
 use Rattle.machine.specs.Layout.{program_of}
 use Rattle.machine.specs.Words.{decode}
-use Rattle.machine.specs.Answers.{matched, searched}
+use Rattle.machine.proofs.Answers.{matched, searched}
 use Rattle.machine.specs.Replies.{Lent, refusal, turned_away}
 use Rattle.millkettle.specs.Compiled.{Coded}
 

@@ -11,7 +11,7 @@ use Rattle.machine.specs.Steps.{search_row}
 use Rattle.machine.specs.Words.{rows_said, groups_said}
 use Rattle.machine.specs.Replies.{shown}
 use Rattle.machine.specs.Repetition.{leads_to, beyond, next_start, match_of, sum, found_from, executed_from, repetition, executed_in, list_words}
-use Rattle.machine.specs.Repeated.{starts_past, starts_more, starts_last, starts_next, matches_few, executed_few}
+use Rattle.machine.proofs.Repeated.{starts_past, starts_more, starts_last, starts_next, matches_few, executed_few}
 use Rattle.running_moves.specs.Ready.{Ready}
 use Rattle.running_threads.specs.Words.{words_at}
 use Rattle.running_threads.specs.Threads.{reg_of}

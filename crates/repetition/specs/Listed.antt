@@ -9,7 +9,7 @@ use Rattle.meaning.specs.Text.{Regs, registers_of}
 use Rattle.machine.specs.Words.{rows_said, groups_said, code_passes}
 use Rattle.machine.specs.Replies.{lend, lent_grounds, refusal}
 use Rattle.machine.specs.Repetition.{found_from, repetition, executed_in}
-use Rattle.machine.specs.Repeated.{matches_few}
+use Rattle.machine.proofs.Repeated.{matches_few}
 use Rattle.running_moves.specs.Ready.{Ready, ready}
 use Rattle.repetition.specs.Listings.{lent_all, repetition_refusal, words_of, spans_of, listing_to, list_from, listed_by}
 use Rattle.repetition.specs.Listings.{Lists}

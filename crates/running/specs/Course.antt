@@ -15,9 +15,9 @@ use Rattle.machine.specs.Rows.{Program, row_count, Key}
 use Rattle.machine.specs.Steps.{Thread, thread, Machine, Machine.machine, step, steps, begun, Done, best}
 use Rattle.machine.specs.Steps.{count, enough, first_thread, run}
 use Rattle.machine.specs.Words.{rows_said, decode}
-use Rattle.machine.specs.Coded.{rows_in_length}
-use Rattle.machine.specs.Bound.{two_each, Bound, stays}
-use Rattle.machine.specs.Passed.{bound, frugal, run_done}
+use Rattle.machine.proofs.Coded.{rows_in_length}
+use Rattle.machine.proofs.Bound.{two_each, Bound, stays}
+use Rattle.machine.proofs.Passed.{bound, frugal, run_done}
 use Rattle.machine.specs.Replies.{run_of}
 use Rattle.running_moves.specs.Keys.{key_of, key_of_lem}
 use Rattle.running_moves.specs.Chosen.{byte_of}

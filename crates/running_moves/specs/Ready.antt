@@ -16,8 +16,9 @@ use Rattle.machine.specs.Rows.{row_count, row_at}
 use Rattle.machine.specs.Kinds.{first_word, second_word, accept_kind, assert_kind, listed}
 use Rattle.machine.specs.Words.{word_at, rows_said, groups_said, row_start, decode_row, row_in, rows_in, decode, row_passes}
 use Rattle.machine.specs.Words.{may_be_last, each_passes, last_passes, rows_pass, header_passes, code_passes}
-use Rattle.machine.specs.Checked.{Checked, checked}
-use Rattle.machine.specs.Coded.{rows_in_at, rows_in_length}
+use Rattle.machine.specs.Checked.{Checked}
+use Rattle.machine.proofs.Checked.{checked}
+use Rattle.machine.proofs.Coded.{rows_in_at, rows_in_length}
 use Rattle.running_moves.specs.Keys.{key_number, keys_of, row_of, flag_of, next_key}
 use Rattle.running_moves.specs.Chosen.{set_in, chosen, Ranged}
 use Rattle.running_moves.specs.declared.Move.{Move}

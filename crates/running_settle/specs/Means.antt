@@ -17,7 +17,7 @@ use Rattle.machine.specs.Rows.{row_at, Key, at}
 use Rattle.machine.specs.Steps.{Move, Move.lose, Move.eat, Move.on, act, Thread, thread, Machine, Machine.machine}
 use Rattle.machine.specs.Steps.{exec, step, steps, among}
 use Rattle.machine.specs.Words.{rows_said, row_in, rows_in}
-use Rattle.machine.specs.Coded.{rows_in_at}
+use Rattle.machine.proofs.Coded.{rows_in_at}
 use Rattle.running_moves.specs.Keys.{key_number, row_of, flag_of, next_key, start_of, end_of, key_of, key_of_lem, key_after, key_next}
 use Rattle.running_moves.specs.Chosen.{byte_of, chosen}
 use Rattle.running_moves.specs.declared.Move.{Move as Doing}

@@ -11,7 +11,7 @@ use Rattle.meaning.specs.Text.{Input, Regs, size}
 use Rattle.machine.specs.Rows.{Program, row_count, Key}
 use Rattle.machine.specs.Steps.{Move, move_of, begun, best, enough, first_thread, run}
 use Rattle.machine.specs.Words.{rows_pass}
-use Rattle.machine.specs.Passed.{run_done}
+use Rattle.machine.proofs.Passed.{run_done}
 use Rattle.second.specs.Below.{leads}
 use Rattle.second.specs.Plain.{Memory, nothing, Search, try_some, Ended, result_of, count_of, enough_tries}
 use Rattle.second.specs.Plain.{beginning, second_run}

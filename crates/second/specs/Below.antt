@@ -5,8 +5,8 @@ use Rattle.meaning.specs.Text.{Input, size}
 use Rattle.machine.specs.Rows.{Key, Program, row_count}
 use Rattle.machine.specs.Steps.{Move, Move.win, Move.lose, Move.eat, Move.on, Move.both, among, move_of}
 use Rattle.machine.specs.Words.{rows_pass}
-use Rattle.machine.specs.Bound as Machine
-use Rattle.machine.specs.Passed as Passed
+use Rattle.machine.proofs.Bound as Machine
+use Rattle.machine.proofs.Passed as Passed
 
 -- How many keys of the first n rows are not in a list; all, in none; one less with a new one.
 abbrev pub free : ℕ → List Key → ℕ

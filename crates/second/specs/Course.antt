@@ -6,7 +6,7 @@ use Rattle.meaning.specs.Limits.{second_limit, second_words, row_limit, group_li
 use Rattle.meaning.specs.Text.{Regs, unset, registers_of}
 use Rattle.meaning.specs.Bytes.{text_of}
 use Rattle.machine.specs.Words.{rows_said, groups_said, decode}
-use Rattle.machine.specs.Coded.{rows_in_length}
+use Rattle.machine.proofs.Coded.{rows_in_length}
 use Rattle.running_moves.specs.Keys.{key_number, keys_of, key_of_lem}
 use Rattle.running_moves.specs.Ready.{Ready}
 use Rattle.running_threads.specs.Words.{Spread}

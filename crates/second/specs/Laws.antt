@@ -12,7 +12,7 @@ use Rattle.meaning.specs.Limits.{second_limit, second_words, least_rows}
 use Rattle.meaning.specs.Refusals as No
 use Rattle.meaning.specs.Grounds.{Tells, told, none_holds}
 use Rattle.machine.specs.Words.{rows_said, groups_said, code_passes, decode}
-use Rattle.machine.specs.Coded.{rows_in_length}
+use Rattle.machine.proofs.Coded.{rows_in_length}
 use Rattle.machine.specs.Replies.{Lent, lent_by, answer_of, reply_to, spans, registers_from}
 use Rattle.running_moves.specs.Ready.{ready}
 use Rattle.running_threads.specs.Threads.{nowhere}

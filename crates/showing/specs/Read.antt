@@ -24,7 +24,7 @@ use Rattle.reading_atoms.specs.Places.{neither, byte_there}
 use Rattle.reading_items.specs.Reading.{Reading, Reading.pattern, reading, table_by}
 use Rattle.reading_items.specs.Read.{what_is_read}
 use Rattle.reading_grammar.specs.Grammar.{Sort, Rule, Derives}
-use Rattle.reading_grammar.specs.Complete.{complete}
+use Rattle.reading_grammar.proofs.Complete.{complete}
 use Rattle.tidying.specs.Held.{table_of}
 use Rattle.compiler.specs.Compiling.{plain, Compiles, compilation, table_at}
 use Rattle.compiler.specs.declared.Compilation.TheVariants.{Rows}

@@ -15,8 +15,9 @@ use Rattle.table.specs.Stands.{Stands, Ends}
 use Rattle.table.specs.Roots.{root_kind}
 use Rattle.tidying_shapes.specs.Tokens.{tokens_of}
 use Rattle.tidying_shapes.specs.Skeleton.{skeleton}
-use Rattle.tidying_shapes.specs.Parse.{first_part, parse, parsed, rebuilds}
-use Rattle.tidying_shapes.specs.Told.{stands_say}
+use Rattle.tidying_shapes.specs.Parse.{first_part, parse}
+use Rattle.tidying_shapes.proofs.Parse.{parsed, rebuilds}
+use Rattle.tidying_shapes.proofs.Told.{stands_say}
 use Rattle.tidying.specs.Held.{table_of}
 use Rattle.tidying.specs.Standing.{Whole, place_ends, place_at}
 use Rattle.showing_form.specs.Form.{OfForm, form?, used_from, used, candidate, chosen, form_of}

@@ -20,7 +20,7 @@ use Rattle.reading_items.specs.Read.{atom_laws, what_is_read}
 use Rattle.reading_items.specs.Reading.{Reading, Reading.pattern, Reading.refused, reading, table_by}
 use Rattle.reading_grammar.specs.Grammar.{Derives}
 use Rattle.reading_grammar.specs.Checked.{Checking, checked}
-use Rattle.reading_grammar.specs.Sound.{sound}
+use Rattle.reading_grammar.proofs.Sound.{sound}
 use Rattle.tidying_laws.specs.Charge as charged
 use Rattle.tidying_laws.specs.Tidier.{tidy}
 use Rattle.tidying_laws.specs.Tidy.{tidy_numbers, tidy_flat, tidy_proper, tidy_rows, tidy_records}

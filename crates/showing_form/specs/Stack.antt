@@ -21,8 +21,8 @@ use Rattle.reading_items.specs.Parts.{NumbersIn, numbers_parts}
 use Rattle.tidying_shapes.specs.Skeleton.{skeleton}
 use Rattle.tidying_shapes.specs.Tokens.{Says}
 use Rattle.tidying_shapes.specs.Laws.{says_join, says_same}
-use Rattle.tidying_shapes.specs.Parse.{skeletons_injective}
-use Rattle.tidying_shapes.specs.Told.{records_say}
+use Rattle.tidying_shapes.proofs.Parse.{skeletons_injective}
+use Rattle.tidying_shapes.proofs.Told.{records_say}
 use Rattle.showing_form.specs.Form.{OfForm, form_of}
 use Rattle.showing_form.specs.Exact.{form_stands, some_kind}
 use Rattle.showing_form.specs.Parts.{Good, Closed, closed_at}

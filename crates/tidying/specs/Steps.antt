@@ -18,10 +18,10 @@ use Rattle.tidying_shapes.specs.Skeleton.{Token, skeleton_in, skeleton, width, t
 use Rattle.tidying_shapes.specs.Skeleton.{alone as in-series}
 use Rattle.tidying_shapes.specs.Tokens.{Says}
 use Rattle.tidying_shapes.specs.Laws.{says_length}
-use Rattle.tidying_shapes.specs.Told.{skeleton_count, stands_say}
+use Rattle.tidying_shapes.proofs.Told.{skeleton_count, stands_say}
 use Rattle.tidying_shapes.specs.Spots.{Parent, Parent.top as outermost, Parent.alone, Parent.among, row_of, behind, Spot}
 use Rattle.tidying_shapes.specs.Placed.{Spots, placed}
-use Rattle.tidying_shapes.specs.Replaced.{spot_tokens, spot_unmerged, spot_merged}
+use Rattle.tidying_shapes.proofs.Replaced.{spot_tokens, spot_unmerged, spot_merged}
 use Rattle.tidying_shapes.specs.Merging.{Unmerged, SomeUnmerged, Merged}
 use Rattle.tidying_shapes.specs.Fresh.{Said, SomeSaid, Refreshed}
 use Rattle.tidying_rewriting.specs.Rewriting.{Fitting, SomeFitting, count}

@@ -10,8 +10,9 @@ use Rattle.tidying_laws.specs.Tidier.{found, tidy_step, tidy}
 use Rattle.tidying_laws.specs.Tidy.{Step, step, tidy_still}
 use Rattle.tidying_shapes.specs.Skeleton.{skeleton}
 use Rattle.tidying_shapes.specs.Tokens.{tokens_of}
-use Rattle.tidying_shapes.specs.Parse.{first_part, parse, parse_skeletons}
-use Rattle.tidying_shapes.specs.Told.{stands_count, stands_say}
+use Rattle.tidying_shapes.specs.Parse.{first_part, parse}
+use Rattle.tidying_shapes.proofs.Parse.{parse_skeletons}
+use Rattle.tidying_shapes.proofs.Told.{stands_count, stands_say}
 use Rattle.tidying.specs.Search.{Sought, SomeSought, Finds, answer_of}
 use Rattle.tidying.specs.Held.{Held, SomeHeld, SomeFound, Steps, held_whole, table_of, Tidies}
 use Rattle.tidying.specs.Steps.{steps}

@@ -10,7 +10,7 @@ use Rattle.meaning.specs.Node.{Node}
 use Rattle.table.specs.Table.{record_words, record_count, records}
 use Rattle.table.specs.Laws.{long}
 use Rattle.table.specs.Roots.{stands_long}
-use Rattle.tidying_shapes.specs.Told.{records_injective}
+use Rattle.tidying_shapes.proofs.Told.{records_injective}
 use Rattle.tidying_laws.specs.Equal.{same, same_eq, same_refl}
 use Rattle.table.specs.Stands.{Ends, SomePart}
 use Rattle.tidying_fitting.specs.Parts.{Tells, TellsBoth, Compares, room}

@@ -9,7 +9,7 @@ use Rattle.meaning.specs.Node.{Node, Node.group, Node.seq, Node.alt, Node.many}
 use Rattle.meaning.specs.Results.{or_else}
 use Rattle.meaning.specs.Numbering.{Numbers, numbered}
 use Rattle.meaning.specs.Standard.{matcher, initial, match_at, exec, search_from}
-use Rattle.meaning.specs.Agrees.{standard}
+use Rattle.meaning.proofs.Agrees.{standard}
 use Rattle.tidying_laws.specs.Groups.{renumber}
 use Rattle.tidying_laws.specs.Void.{Fair}
 use Rattle.tidying_laws.specs.Alike.{Alike, alike_refl, alike_group, alike_seq, alike_alt, alike_many}

@@ -1,10 +1,6 @@
 pub mod Rewriting
 pub mod Quantifiers
-pub mod Own
 pub mod Frames
 pub mod Series
-pub mod Walks
-pub mod Filling
 pub mod Dropping
-pub mod Dropped
 pub mod Carried

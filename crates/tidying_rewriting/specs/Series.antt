@@ -13,7 +13,7 @@ use Rattle.tidying_laws.specs.Kept.{Ok, ok_two}
 use Rattle.tidying_shapes.specs.Skeleton.{Token, token, row_token, skeleton_in, skeleton, row_parts, pair_own}
 use Rattle.tidying_shapes.specs.Tokens.{Says}
 use Rattle.tidying_shapes.specs.Edits.{Removed, Stamped, Counted}
-use Rattle.tidying_shapes.specs.Told.{skeleton_count}
+use Rattle.tidying_shapes.proofs.Told.{skeleton_count}
 use Rattle.tidying_rewriting.specs.Rewriting.{leaf_token}
 
 -- As many tokens as records.

@@ -4,3 +4,6 @@ mod Edited
 mod Climbing
 mod Joined
 mod Refreshing
+pub mod Parse
+pub mod Replaced
+pub mod Told

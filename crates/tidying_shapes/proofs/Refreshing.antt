@@ -16,7 +16,7 @@ use Rattle.table.specs.Stands.{Stands, Made, Putting, Puts}
 use Rattle.tidying_shapes.specs.Skeleton.{Token}
 use Rattle.tidying_shapes.specs.Tokens.{token_at, tokens_from, tokens_of}
 use Rattle.tidying_shapes.specs.Laws.{tokens_from_lem, tokens_more, above_more}
-use Rattle.tidying_shapes.specs.Parse.{Closes, Rebuilds, rebuilds}
+use Rattle.tidying_shapes.proofs.Parse.{Closes, Rebuilds, rebuilds}
 use Rattle.tidying_shapes.specs.Fresh.{Said, SomeSaid, Refreshed}
 
 -- How far the pass has come with a pattern: the parts that stand, which the tokens from there on make the pattern of.

@@ -6,7 +6,5 @@ pub mod Tokens
 pub mod Laws
 pub mod Edits
 pub mod Parse
-pub mod Told
 pub mod Merging
 pub mod Fresh
-pub mod Replaced

@@ -19,9 +19,9 @@ use Rattle.tidying_fitting.specs.Parts.{room}
 use Rattle.tidying_shapes.specs.Skeleton.{Token, token, row_token, skeleton_in, skeleton}
 use Rattle.tidying_shapes.specs.Tokens.{Says}
 use Rattle.tidying_shapes.specs.Laws.{says_length, says_at}
-use Rattle.tidying_shapes.specs.Told.{skeleton_count}
+use Rattle.tidying_shapes.proofs.Told.{skeleton_count}
 use Rattle.tidying_rewriting.specs.Rewriting.{Fitting, SomeFitting, Rewrites, own_word, count}
-use Rattle.tidying_rewriting.specs.Own.{own_said, inside_here}
+use Rattle.tidying_rewriting.proofs.Own.{own_said, inside_here}
 use Rattle.tidying_rewriting.specs.Series.{skeletons_count, skeletons_append, Rejoins}
 use Rattle.tidying_sharing.specs.Leads.{Lead, Lead.single, Lead.leading, opening}
 use Rattle.tidying_sharing.specs.Trims.{trimmed, lead_tokens}

@@ -13,9 +13,9 @@ use Rattle.tidying_fitting.specs.Parts.{Tells, length_parts}
 use Rattle.tidying_fitting.specs.Words.{start_of}
 use Rattle.tidying_shapes.specs.Skeleton.{Token, skeleton}
 use Rattle.tidying_shapes.specs.Tokens.{Says}
-use Rattle.tidying_shapes.specs.Told.{skeleton_count}
+use Rattle.tidying_shapes.proofs.Told.{skeleton_count}
 use Rattle.tidying_rewriting.specs.Series.{skeletons_append}
-use Rattle.tidying_rewriting.specs.Walks.{Walked, Turned, turned}
+use Rattle.tidying_rewriting.proofs.Walks.{Walked, Turned, turned}
 use Rattle.tidying_sharing.specs.Leads.{Lead, left}
 use Rattle.tidying_sharing.specs.Trims.{trimmed, fewer_parts, trim_width}
 use Rattle.tidying_sharing.specs.Lent.{TrimmingAt, SomeTrimmingAt, some_trimming_at, TrimsAt}

@@ -1,5 +1,3 @@
 pub mod Wire
 pub mod Front
 pub mod Words
-pub mod Ints
-pub mod Written

@@ -2,7 +2,7 @@
 use borrow.Author.Rules.{rules}
 use Rattle.reading_atoms.specs.Places.{bytes_of}
 use Rattle.compiler.specs.Given.{given, given_some}
-use Rattle.compiler.specs.Laws.{turned_away_lem, programmed}
+use Rattle.compiler.proofs.Laws.{turned_away_lem, programmed}
 use Rattle.compiler.proofs.compile_as.Goals as goal
 
 pub program-requires : goal.program-requires

@@ -1,6 +1,6 @@
 -- The size in a pattern's own record is held just above the limit of rows. Assumes nothing.
 use native.Mathlib.Omega.{arith}
-use Rattle.compiler.specs.Laws.{stored_some, size_small, tells_rows}
+use Rattle.compiler.proofs.Laws.{stored_some, size_small, tells_rows}
 use Rattle.compiler.proofs.many_rows.Goals as goal
 
 pub root-whole-requires : goal.root-whole-requires

@@ -1,6 +1,6 @@
 -- 15 is by the rows of the pattern that was read, and then all is as the shaped one is written. Assumes nothing.
 use borrow.Author.Rules.{rules}
-use Rattle.compiler.specs.Laws.{too_many, shaped_tabled, written, never_many, too_short}
+use Rattle.compiler.proofs.Laws.{too_many, shaped_tabled, written, never_many, too_short}
 use Rattle.compiler.proofs.program.Goals as goal
 
 pub returns-then-many_rows : goal.returns-then-many_rows

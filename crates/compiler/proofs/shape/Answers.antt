@@ -1,5 +1,5 @@
 -- The tidied pattern stands in the table, or the one that stood there.
-use Rattle.compiler.specs.Laws.{held_some, shapes_tidied, shapes_plain}
+use Rattle.compiler.proofs.Laws.{held_some, shapes_tidied, shapes_plain}
 use Rattle.compiler.proofs.shape.Goals as goal
 
 pub returns-then-tidying : goal.returns-then-tidying

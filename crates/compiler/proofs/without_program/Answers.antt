@@ -1,6 +1,6 @@
 -- Nothing is kept of the table, and the refusal has its number.
 use mathlib.Core.Path.{refl}
-use Rattle.compiler.specs.Laws.{made_zero}
+use Rattle.compiler.proofs.Laws.{made_zero}
 use Rattle.compiler.proofs.without_program.Goals as goal
 
 pub returns : goal.returns

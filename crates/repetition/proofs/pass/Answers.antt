@@ -8,7 +8,7 @@ use lib.ListN.{length, get_or}
 use Rattle.meaning.specs.Text.{Regs}
 use Rattle.meaning.specs.Limits.{workspace_words, position_limit, row_limit, group_limit}
 use Rattle.machine.specs.Words.{rows_said, groups_said}
-use Rattle.machine.specs.Repeated.{next_beyond}
+use Rattle.machine.proofs.Repeated.{next_beyond}
 use Rattle.running_threads.specs.Threads.{reg_of}
 use Rattle.engine.specs.Laws.{words_few as few_words}
 use Rattle.repetition.specs.Laws.{course_first, course_next, course_past, course_missed, Hit, hit_found}

@@ -2,7 +2,7 @@
 use native.Mathlib.Omega.{arith}
 use Rattle.tidying_laws.specs.List.{laws}
 use Rattle.tidying_laws.specs.ByNumber.{law_count, none_of}
-use Rattle.tidying_rewriting.specs.Carried.{carried, fits_carried, carries, carries_none}
+use Rattle.tidying_rewriting.proofs.Carried.{carried, fits_carried, carries, carries_none}
 use Rattle.tidying.proofs.rewrite.Goals as goal
 
 pub drop_empty-requires : goal.drop_empty-requires

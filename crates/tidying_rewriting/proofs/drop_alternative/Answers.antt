@@ -1,7 +1,7 @@
 -- Where the alternative stands is what `leftmost` and `start` tell: it is cut out, and the others are joined again.
 use native.Mathlib.Omega.{arith}
 use Rattle.tidying_rewriting.specs.Rewriting.{within}
-use Rattle.tidying_rewriting.specs.Dropped.{DropAt, drop_there, drop_at, drops}
+use Rattle.tidying_rewriting.proofs.Dropped.{DropAt, drop_there, drop_at, drops}
 use Rattle.tidying_rewriting.proofs.drop_alternative.Goals.{After-start-from}
 use Rattle.tidying_rewriting.proofs.drop_alternative.Goals as goal
 

@@ -4,8 +4,8 @@ use native.Mathlib.Omega.{arith}
 use lib.ListN.{length}
 use Rattle.table.specs.Table.{record_words}
 use Rattle.tidying_rewriting.specs.Rewriting.{within}
-use Rattle.tidying_rewriting.specs.Filling.{one_filling, fills_all, filling_start, filling_gone, filling_kept}
-use Rattle.tidying_rewriting.specs.Filling.{item_there, item_few, filled_room}
+use Rattle.tidying_rewriting.proofs.Filling.{one_filling, fills_all, filling_start, filling_gone, filling_kept}
+use Rattle.tidying_rewriting.proofs.Filling.{item_there, item_few, filled_room}
 use Rattle.tidying_rewriting.proofs.drop_empty.Goals.{After-loop-left, In-loop-left}
 use Rattle.tidying_rewriting.proofs.drop_empty.Goals as goal
 

@@ -2,7 +2,7 @@
 use mathlib.Core.Path.{◌≡◌}
 use Prim.Native.Nat.{◌+◌, ◌-◌, ◌≤◌}
 use lib.ListN.{length}
-use Rattle.tidying_rewriting.specs.Filling.{Fills}
+use Rattle.tidying_rewriting.proofs.Filling.{Fills}
 use Rattle.tidying_rewriting.proofs.drop_empty.Given as goal
 
 abbrev pub invariant-loop-left : goal.invariant-loop-left

@@ -3,7 +3,7 @@ use mathlib.Core.Path.{ap}
 use Prim.Native.Nat.{◌-◌}
 use native.Mathlib.Omega.{arith}
 use Rattle.tidying_rewriting.specs.Rewriting.{within}
-use Rattle.tidying_rewriting.specs.Own.{block, shrunk}
+use Rattle.tidying_rewriting.proofs.Own.{block, shrunk}
 use Rattle.tidying_rewriting.proofs.shrink.Goals as goal
 
 pub word-requires : goal.word-requires

@@ -1,6 +1,6 @@
 -- The inner quantifier's own record stands right below the outer's.
 use native.Mathlib.Omega.{arith}
-use Rattle.tidying_rewriting.specs.Own.{inner_there, outer_left}
+use Rattle.tidying_rewriting.proofs.Own.{inner_there, outer_left}
 use Rattle.tidying_rewriting.proofs.unnest.Goals as goal
 
 pub overflow_sub-top : goal.overflow_sub-top

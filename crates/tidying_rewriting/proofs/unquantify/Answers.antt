@@ -1,7 +1,7 @@
 -- The minimum is the first of the last eight words of the quantifier's own record.
 use native.Mathlib.Omega.{arith}
 use Rattle.tidying_rewriting.specs.Rewriting.{within}
-use Rattle.tidying_rewriting.specs.Own.{never, once}
+use Rattle.tidying_rewriting.proofs.Own.{never, once}
 use Rattle.tidying_rewriting.proofs.unquantify.Goals as goal
 
 pub word-requires : goal.word-requires

@@ -1,7 +1,7 @@
 -- By the kind of the part: T7 makes a sequence the empty set, and of an alternation the leftmost empty set goes.
 use native.Mathlib.Omega.{arith}
 use Rattle.tidying_rewriting.specs.Rewriting.{within}
-use Rattle.tidying_rewriting.specs.Dropped.{voids, void_fits, void_drops}
+use Rattle.tidying_rewriting.proofs.Dropped.{voids, void_fits, void_drops}
 use Rattle.tidying_rewriting.proofs.void.Goals as goal
 
 pub word-requires : goal.word-requires

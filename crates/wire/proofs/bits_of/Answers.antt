@@ -7,7 +7,7 @@ use mir.Syntax.{w32, w64}
 use mir.Val.{SFits}
 use mir.Facts.{to_z_pos, to_z-of_z, sfits_widen}
 use Rattle.wire.specs.Wire.{bits_of}
-use Rattle.wire.specs.Ints.{bits_fit, bits_raised, bits_plain}
+use Rattle.wire.proofs.Ints.{bits_fit, bits_raised, bits_plain}
 use Rattle.wire.proofs.bits_of.Goals.{Else-value-lt0, Then-value-lt0}
 use Rattle.wire.proofs.bits_of.Goals as goal
 

@@ -7,7 +7,7 @@ use mir.Syntax.{w32, w64}
 use mir.Val.{SFits}
 use mir.Facts.{to_z_pos, to_z-of_z, sfits_widen}
 use Rattle.wire.specs.Wire.{int_of}
-use Rattle.wire.specs.Ints.{int_machine, int_fits, int_lowered}
+use Rattle.wire.proofs.Ints.{int_machine, int_fits, int_lowered}
 use Rattle.wire.proofs.int_of.Goals.{Else-word-lt-HALF}
 use Rattle.wire.proofs.int_of.Goals as goal
 

@@ -6,7 +6,7 @@ use borrow.Author.Rules.{rules}
 use mir.Facts.{to_z-of_z}
 use Rattle.wire.specs.Wire.{words_of, int_of, ints_of}
 use Rattle.wire.specs.Front.{front_none, front_next, front_length, front_whole}
-use Rattle.wire.specs.Ints.{read_more}
+use Rattle.wire.proofs.Ints.{read_more}
 use Rattle.wire.proofs.load_ints.Goals as goal
 
 pub loop-i-init : goal.loop-i-init

@@ -9,7 +9,7 @@ use lib.Seq.{take-length}
 use Rattle.wire.specs.Wire.{bits_of, bytes_of_word, bytes_of_words, bytes_of_ints}
 use Rattle.wire.specs.Front.{front_none, front_four, front_length, front_written}
 use Rattle.wire.specs.Words.{word_length}
-use Rattle.wire.specs.Ints.{ints_more}
+use Rattle.wire.proofs.Ints.{ints_more}
 use Rattle.wire.proofs.store_ints.Goals as goal
 
 pub loop-at-init : goal.loop-at-init

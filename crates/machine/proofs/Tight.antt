@@ -17,8 +17,8 @@ use Rattle.machine.specs.Laid.{Turn, Laid, Laid.nothing, Laid.one, Laid.test, La
 use Rattle.machine.specs.Laid.{Laid.must, Laid.stop, Laid.may, Laid.loop, grows, Each, nil, cons, join, Stand}
 use Rattle.machine.specs.Laid.{program_stands}
 use Rattle.machine.specs.Inner.{open_behind, open_at, some?, is_inner, inner_below, inner_rows}
-use Rattle.machine.specs.Bound.{free, Keys, May, Inside, Bound, counts, executes_few}
-use Rattle.machine.specs.Bound.{begins, after}
+use Rattle.machine.proofs.Bound.{free, Keys, May, Inside, Bound, counts, executes_few}
+use Rattle.machine.proofs.Bound.{begins, after}
 
 -- The flag that a row runs with, unless it is inner: clear behind the prefix's Begin up to its Consume, else set.
 abbrev pub flag_of : ℕ → Bool

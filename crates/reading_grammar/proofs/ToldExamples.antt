@@ -16,9 +16,9 @@ use Rattle.reading_atoms.specs.Braces.{number_go, number_at, braces_at, quantifi
 use Rattle.reading_items.specs.Reading.{Reading, Reading.pattern, Reading.refused, opening_at, item_by, item_at, sequence_go}
 use Rattle.reading_items.specs.Reading.{alternatives_go, reading}
 use Rattle.reading_grammar.specs.Grammar.{Derives}
-use Rattle.reading_grammar.specs.Complete.{refused_not}
+use Rattle.reading_grammar.proofs.Complete.{refused_not}
 use Rattle.reading_grammar.specs.Refusals.{TurnedAway}
-use Rattle.reading_grammar.specs.First.{refused_first, one_refusal}
+use Rattle.reading_grammar.proofs.First.{refused_first, one_refusal}
 
 -- A pattern, a number and a place.
 pub data Line : Type 0 where

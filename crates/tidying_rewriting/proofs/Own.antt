@@ -8,10 +8,11 @@ use Rattle.table.specs.Laws.{inner, last_of}
 use Rattle.tidying_shapes.specs.Skeleton.{Token, token, skeleton_in, skeleton, inner_skeleton}
 use Rattle.tidying_shapes.specs.Tokens.{Says}
 use Rattle.tidying_shapes.specs.Edits.{Removed, Stamped}
-use Rattle.tidying_shapes.specs.Told.{skeleton_count}
+use Rattle.tidying_shapes.proofs.Told.{skeleton_count}
 use Rattle.tidying_rewriting.specs.Rewriting.{Placed, Fitting, SomeFitting, Rewrites, leaf_token, Shrinks, ok_some}
 use Rattle.tidying_rewriting.specs.Rewriting.{within, own_word}
-use Rattle.tidying_rewriting.specs.Quantifiers.{unquantified, unnested, left_empty, Inside, left_part, Nested, left_outer}
+use Rattle.tidying_rewriting.specs.Quantifiers.{unquantified, unnested}
+use Rattle.tidying_rewriting.proofs.Quantifiers.{left_empty, Inside, left_part, Nested, left_outer}
 
 module _ {table : List ℕ} {n top : ℕ} {before : List ℕ} {x : Node} {l m : List Token}
     (p : Placed table n top before x l m) where

@@ -12,7 +12,7 @@ use Rattle.machine.specs.Layout.{size_of, program_of}
 use Rattle.machine.specs.Laid.{Turn, Laid, Laid.nothing, Laid.one, Laid.test, Laid.inside, Laid.chain, Laid.either}
 use Rattle.machine.specs.Laid.{Laid.must, Laid.stop, Laid.may, Laid.loop, grows, Stand, program_stands}
 use Rattle.machine.specs.Inner.{open_at, some?, inner_below, inner_rows, counting, inner}
-use Rattle.machine.specs.Tight.{next_open, Even, even, turn_open}
+use Rattle.machine.proofs.Tight.{next_open, Even, even, turn_open}
 
 -- Where every row counts, those of a pattern are its size.
 all_count : (r : Node) → counting 1 r ≡ size_of r

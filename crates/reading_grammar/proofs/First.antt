@@ -7,11 +7,11 @@ use Rattle.meaning.specs.Node.{Node}
 use Rattle.meaning.specs.Refusals as No
 use Rattle.reading_items.specs.Reading.{alternatives_at, Reading, Reading.pattern, Reading.refused, whole, reading}
 use Rattle.reading_grammar.specs.Checked.{Passed, Checking, checked, passed_none, check_number, one_place}
-use Rattle.reading_grammar.specs.Sound.{read_sound, Sound, sound}
+use Rattle.reading_grammar.proofs.Sound.{read_sound, Sound, sound}
 use Rattle.reading_grammar.specs.Grammar.{Derives}
-use Rattle.reading_grammar.specs.Complete.{refused_not}
+use Rattle.reading_grammar.proofs.Complete.{refused_not}
 use Rattle.reading_grammar.specs.Refusals.{Checks, Checks.long, Checks.small, Checks.high, Refuses, Before, TurnedAway}
-use Rattle.reading_grammar.specs.Refused.{Told, refuses_told}
+use Rattle.reading_grammar.proofs.Refused.{Told, refuses_told}
 
 same_told : {n p m q : ℕ} → refused n p ≡ refused m q → (n ≡ m) × (p ≡ q)
 same_told e = (cc, cc)

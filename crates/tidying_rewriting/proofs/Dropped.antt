@@ -23,14 +23,15 @@ use Rattle.tidying_fitting.specs.declared.Want.{Want}
 use Rattle.tidying_fitting.specs.declared.Want.TheVariants.{Void}
 use Rattle.tidying_shapes.specs.Skeleton.{Token, token, row_token, skeleton_in, skeleton}
 use Rattle.tidying_shapes.specs.Tokens.{Says}
-use Rattle.tidying_shapes.specs.Told.{skeleton_count}
+use Rattle.tidying_shapes.proofs.Told.{skeleton_count}
 use Rattle.tidying_rewriting.specs.Rewriting.{Placed, Fitting, SomeFitting, Rewrites, Shrinks, ok_some, fitting_wide}
 use Rattle.tidying_rewriting.specs.Rewriting.{some_wide}
 use Rattle.tidying_rewriting.specs.Rewriting.{within, own_word}
-use Rattle.tidying_rewriting.specs.Own.{own_said, inside_here}
+use Rattle.tidying_rewriting.proofs.Own.{own_said, inside_here}
 use Rattle.tidying_rewriting.specs.Frames.{Cut}
 use Rattle.tidying_rewriting.specs.Series.{skeletons_count, skeletons_append, Rejoins, Rejoining, joined}
-use Rattle.tidying_rewriting.specs.Dropping.{dropping, Drop, drop_of, void_alternation, void_sequence}
+use Rattle.tidying_rewriting.specs.Dropping.{dropping}
+use Rattle.tidying_rewriting.proofs.Dropping.{Drop, drop_of, void_alternation, void_sequence}
 
 -- A part inside a part that is placed: where its records end.
 module _ {table : List ℕ} {n top : ℕ} {before : List ℕ} {x : Node} {l m : List Token}

@@ -14,8 +14,8 @@ use Rattle.machine.specs.Rows.{Program, row_count, row_at, Key, at}
 use Rattle.machine.specs.Steps.{Move, Move.lose, Move.on, act, move_of, Thread, Machine, steps, begun, Done, seen, count}
 use Rattle.machine.specs.Steps.{enough, first_thread, run}
 use Rattle.machine.specs.Words.{row_passes, may_be_last, each_passes, last_passes, rows_pass}
-use Rattle.machine.specs.Bound.{two_each, May, Inside, Bound, Room, room, counts, executes_few, begins, left_begun, after}
-use Rattle.machine.specs.Bound.{ends}
+use Rattle.machine.proofs.Bound.{two_each, May, Inside, Bound, Room, room, counts, executes_few, begins, left_begun, after}
+use Rattle.machine.proofs.Bound.{ends}
 
 module _ (p : Program) (pass : rows_pass p ≡ true) where
   abbrev n : ℕ

@@ -25,8 +25,8 @@ use Rattle.machine.specs.Laid.{Laid.must, Laid.stop, Laid.may, Laid.loop, grows,
 use Rattle.machine.specs.Laid.{program_stands}
 use Rattle.machine.specs.Inner.{open_behind, open_at, is_inner, inner_below, inner_rows, marks_turn, Straight, RowsApart}
 use Rattle.machine.specs.Inner.{fixed}
-use Rattle.machine.specs.Bound.{same_key_refl, May, Apart, Bound, executes_apart}
-use Rattle.machine.specs.Tight.{flag_of, one_each, bound, run_tight}
+use Rattle.machine.proofs.Bound.{same_key_refl, May, Apart, Bound, executes_apart}
+use Rattle.machine.proofs.Tight.{flag_of, one_each, bound, run_tight}
 
 -- Keys with the flags of their rows, each once: no two have the same row.
 rows_apart : (s : List Key) → All (λ k. k.flag ≡ flag_of k.row) s → Apart s → RowsApart s

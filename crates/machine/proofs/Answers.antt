@@ -14,7 +14,7 @@ use Rattle.meaning.specs.Node.{Node, Node.bset, Node.group, Node.many, lo, hi, P
 use Rattle.meaning.specs.Results.{or_else, or_else_none, first_some, later, moved, fresh, turns, forced, results, first_concat_map}
 use Rattle.meaning.specs.Results.{first_stop, first_turns}
 use Rattle.meaning.specs.Standard.{initial, matcher, match_at, exec, search_from}
-use Rattle.meaning.specs.Agrees.{standard}
+use Rattle.meaning.proofs.Agrees.{standard}
 use Rattle.meaning.specs.Numbering.{Numbered, Numbers, apart, numbered}
 use Rattle.machine.specs.Rows.{Row, Row.accept, Program, row_count, row_at, Key, at}
 use Rattle.machine.specs.Steps.{Move, move_of, Thread, Machine, steps, begun, Done, best, enough, first_thread, run}
@@ -22,9 +22,9 @@ use Rattle.machine.specs.Steps.{match_row, search_row}
 use Rattle.machine.specs.Trees.{Tree.won, first}
 use Rattle.machine.specs.Layout.{any_byte, whole, program_of}
 use Rattle.machine.specs.Laid.{Laid, Laid.chain, Stand, program_stands}
-use Rattle.machine.specs.Compile.{Run, Follows, compile}
-use Rattle.machine.specs.Best.{Trees, firsts, starts, after, ended}
-use Rattle.machine.specs.Passed.{run_done}
+use Rattle.machine.proofs.Compile.{Run, Follows, compile}
+use Rattle.machine.proofs.Best.{Trees, firsts, starts, after, ended}
+use Rattle.machine.proofs.Passed.{run_done}
 use Rattle.machine.specs.Compiled.{compiled_passes}
 
 -- A run records the answer of its first thread's tree, once it has ended.

@@ -11,7 +11,7 @@ use Rattle.table.specs.Roots.{stands_long}
 use Rattle.tidying_shapes.specs.Skeleton.{Token, token, skeleton_in, skeleton}
 use Rattle.tidying_shapes.specs.Tokens.{token_at, Says}
 use Rattle.tidying_shapes.specs.Laws.{token_same, says_length, says_join, says_only, says_same}
-use Rattle.tidying_shapes.specs.Parse.{skeleton_injective}
+use Rattle.tidying_shapes.proofs.Parse.{skeleton_injective}
 
 -- Words that are whole records, and say these tokens.
 record Told (words : List ℕ) (n : ℕ) (ts : List Token) : Type 0 where

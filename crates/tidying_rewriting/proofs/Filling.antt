@@ -26,7 +26,7 @@ use Rattle.tidying_shapes.specs.Laws.{says_length}
 use Rattle.tidying_rewriting.specs.Rewriting.{Placed, Fitting, SomeFitting, Rewrites, ok_some, count}
 use Rattle.tidying_rewriting.specs.Frames.{Cut}
 use Rattle.tidying_rewriting.specs.Series.{SeriesOf, series_of, Rejoins, Rejoining, joined}
-use Rattle.tidying_rewriting.specs.Walks.{Walked, walk_start, Turned, turned, last_word}
+use Rattle.tidying_rewriting.proofs.Walks.{Walked, walk_start, Turned, turned, last_word}
 
 -- Of the items behind those still to be walked the filled ones are left, `kept` of them.
 pub record Filling (table : List ℕ) (n end left kept : ℕ) (before : List ℕ) (x : Node) (l m : List Token) : Type 0 where

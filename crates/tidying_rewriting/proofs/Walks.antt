@@ -12,9 +12,9 @@ use Rattle.tidying_fitting.specs.Parts.{room}
 use Rattle.tidying_shapes.specs.Skeleton.{Token, token, skeleton}
 use Rattle.tidying_shapes.specs.Tokens.{Says}
 use Rattle.tidying_shapes.specs.Laws.{says_length}
-use Rattle.tidying_shapes.specs.Told.{skeleton_count}
+use Rattle.tidying_shapes.proofs.Told.{skeleton_count}
 use Rattle.tidying_rewriting.specs.Rewriting.{Placed, own_word}
-use Rattle.tidying_rewriting.specs.Own.{own_said, inside_here}
+use Rattle.tidying_rewriting.proofs.Own.{own_said, inside_here}
 use Rattle.tidying_rewriting.specs.Series.{skeletons_append}
 
 -- The walk has come to record number `end`, with `left` parts to go, behind which stand some tokens.

@@ -13,8 +13,8 @@ use Rattle.tidying_shapes.specs.Skeleton.{Token, token, row_token, skeleton_in, 
 use Rattle.tidying_shapes.specs.Spots.{Parent, Parent.top, Parent.alone, Parent.among, row_of, behind, Spot}
 use Rattle.tidying_shapes.specs.Placed.{Spots}
 use Rattle.tidying_shapes.specs.Tokens.{Says}
-use Rattle.tidying_shapes.specs.Parse.{rebuilds, rebuilds_few}
-use Rattle.tidying_shapes.specs.Told.{skeleton_count}
+use Rattle.tidying_shapes.proofs.Parse.{rebuilds, rebuilds_few}
+use Rattle.tidying_shapes.proofs.Told.{skeleton_count}
 use Rattle.tidying_shapes.specs.Merging.{items_of, Unmerged, Merged}
 
 -- Each of the places, with its number.

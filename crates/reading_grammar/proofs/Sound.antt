@@ -9,7 +9,7 @@ use Rattle.reading_items.specs.Reading.{Part, Part.part, Part.turned, alternativ
 use Rattle.reading_items.specs.Reading.{whole}
 use Rattle.reading_items.specs.Reading.{reading}
 use Rattle.reading_grammar.specs.Within.{due_within}
-use Rattle.reading_grammar.specs.ItemsSound.{Told, All, open_end, all_sound}
+use Rattle.reading_grammar.proofs.ItemsSound.{Told, All, open_end, all_sound}
 use Rattle.reading_grammar.specs.Checked.{Checking, checked}
 use Rattle.reading_grammar.specs.Refusals.{Checks, Refuses}
 use Rattle.reading_grammar.specs.Grammar.{Sort, Rule, Derives}

@@ -7,7 +7,7 @@ use Rattle.std.proofs.lemmas.List.{length-map, drop-append-le}
 use Rattle.std.proofs.Math.Seq.{drop-nil}
 use Rattle.wire.specs.Wire.{words_of, bytes_of_word, bytes_of_words, bits_of, bytes_of_ints, ints_of, written}
 use Rattle.wire.specs.Words.{bytes_length, bytes_back}
-use Rattle.wire.specs.Ints.{words_of_map}
+use Rattle.wire.proofs.Ints.{words_of_map}
 
 -- A new front, with what followed it written back.
 written_over : (bytes x : List ℕ) (w n : ℕ) → length x ≡ w → w ≤ n → n ≤ length bytes

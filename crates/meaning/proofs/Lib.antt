@@ -1,0 +1,2 @@
+-- Theorems over the definitions of specs/, and what their proofs use.
+pub mod Agrees

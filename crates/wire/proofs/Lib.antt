@@ -1,0 +1,3 @@
+-- Theorems over the definitions of specs/, and what their proofs use.
+pub mod Ints
+pub mod Written
