@@ -12,7 +12,7 @@ use Rattle.table.specs.Table.{record_words, size_cap, record_count}
 use Rattle.table.specs.Derived.{root_of}
 use Rattle.table.specs.Roots.{root_derived, some_records, few_records_lem}
 use Rattle.table.specs.declared.Derived.{Derived}
-use Rattle.tidying_laws.specs.Tidy.{tidy_rows, tidy_numbers, tidy_proper}
+use Rattle.tidying_laws.proofs.Tidy.{tidy_rows, tidy_numbers, tidy_proper}
 use Rattle.reading_items.specs.Reading.{Reading, Reading.pattern, Reading.refused, reading, table_by, table_after}
 use Rattle.reading.specs.Answers.{Reads, answer_of}
 use Rattle.reading.specs.declared.Reading.{Reading as Answer}

@@ -19,9 +19,10 @@ use Rattle.meaning.specs.All.{All}
 use Rattle.tidying_laws.specs.Void.{fair}
 use Rattle.tidying_laws.specs.Within.{Stands}
 use Rattle.tidying_laws.specs.List.{words, becomes}
-use Rattle.tidying_laws.specs.Anywhere.{SameAnywhere, laws_anywhere}
+use Rattle.tidying_laws.specs.Anywhere.{SameAnywhere}
+use Rattle.tidying_laws.proofs.Anywhere.{laws_anywhere}
 use Rattle.tidying_laws.specs.Tidier.{tidy}
-use Rattle.tidying_laws.specs.Tidy.{tidy_alike, tidy_rows, tidy_clean, tidy_match, tidy_search}
+use Rattle.tidying_laws.proofs.Tidy.{tidy_alike, tidy_rows, tidy_clean, tidy_match, tidy_search}
 use Rattle.reading_items.specs.Read.{what_is_read}
 use Rattle.reading_items.specs.Reading.{Reading.pattern, reading, table_by}
 use Rattle.code_rows.specs.Emission.{rows_needed}

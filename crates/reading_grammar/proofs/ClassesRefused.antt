@@ -18,7 +18,7 @@ use Rattle.reading_grammar.specs.WrongEscapes.{wrong_first, wrong_read}
 use Rattle.reading_grammar.specs.Refusals.{ClassOpens, ClassOpens.holding, ClassOpens.lacking, ClassDue, End, End.byte}
 use Rattle.reading_grammar.specs.Refusals.{End.set}
 use Rattle.reading_grammar.specs.Refusals.{BadRange, BadRange.reversed, BadRange.left, BadRange.right, WrongEscape}
-use Rattle.reading_grammar.proofs.Reads.{any_depth}
+use Rattle.reading_grammar.proofs.AllReads.{any_depth}
 use Rattle.reading_grammar.proofs.Reached.{item_fails, reached}
 
 module _ (s : List ℕ) where

@@ -4,7 +4,7 @@ pub mod Complete
 pub mod First
 pub mod ItemsSound
 pub mod Reached
-pub mod Reads
+pub mod AllReads
 pub mod Refused
 pub mod Sound
 pub mod ToldExamples

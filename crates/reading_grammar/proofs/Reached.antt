@@ -16,7 +16,7 @@ use Rattle.reading_grammar.specs.Atoms.{Is}
 use Rattle.reading_grammar.specs.Begins.{rule_begins}
 use Rattle.reading_grammar.specs.Forwards.{item_on}
 use Rattle.reading_grammar.specs.Within.{known, due_within, due_deep, rule_within}
-use Rattle.reading_grammar.proofs.Reads.{goes, item_read}
+use Rattle.reading_grammar.proofs.AllReads.{goes, item_read}
 use Rattle.reading_grammar.specs.Refusals.{Due, Due.start, Due.behind, Due.bars, Due.grouped, Due.plain}
 
 module _ (s : List ℕ) where

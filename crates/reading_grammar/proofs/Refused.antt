@@ -32,7 +32,7 @@ use Rattle.reading_grammar.specs.Refusals.{Refuses.range_escape, Refuses.look, R
 use Rattle.reading_grammar.specs.Refusals.{Refuses.no_form}
 use Rattle.reading_grammar.specs.Refusals.{Refuses.above, Refuses.disordered, Refuses.bad_range, Refuses.unclosed_class}
 use Rattle.reading_grammar.specs.Refusals.{Refuses.unmatched, Refuses.unclosed, Refuses.stray, Refuses.deep, Refuses.full}
-use Rattle.reading_grammar.proofs.Reads.{any_depth, atom_read}
+use Rattle.reading_grammar.proofs.AllReads.{any_depth, atom_read}
 use Rattle.reading_grammar.proofs.Reached.{rest, Fails, item_fails, reached}
 use Rattle.reading_grammar.proofs.ClassesRefused.{escape_whole, range_escape_whole, bad_range_whole, unclosed_whole}
 

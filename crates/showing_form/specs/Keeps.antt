@@ -23,8 +23,8 @@ use Rattle.reading_grammar.specs.Checked.{Checking, checked}
 use Rattle.reading_grammar.proofs.Sound.{sound}
 use Rattle.tidying_laws.specs.Charge as charged
 use Rattle.tidying_laws.specs.Tidier.{tidy}
-use Rattle.tidying_laws.specs.Tidy.{tidy_numbers, tidy_flat, tidy_proper, tidy_rows, tidy_records}
-use Rattle.tidying_laws.specs.Found.{places_records}
+use Rattle.tidying_laws.proofs.Tidy.{tidy_numbers, tidy_flat, tidy_proper, tidy_rows, tidy_records}
+use Rattle.tidying_laws.proofs.Found.{places_records}
 use Rattle.tidying.specs.Held.{table_of}
 use Rattle.tidying.specs.Standing.{place_count}
 use Rattle.code_rows.specs.Emission.{rows_needed}

@@ -9,7 +9,8 @@ use Rattle.table.specs.Table.{records}
 use Rattle.table.specs.Stands.{Stands, SomePart}
 use Rattle.tidying_laws.specs.List.{laws}
 use Rattle.tidying_laws.specs.Tidier.{Place, itself, places, lowest, found}
-use Rattle.tidying_laws.specs.Found.{first_from, from_next, from_here, from_end}
+use Rattle.tidying_laws.specs.Found.{first_from}
+use Rattle.tidying_laws.proofs.Found.{from_next, from_here, from_end}
 use Rattle.tidying_laws.specs.ByNumber.{nothing, law_count, law_of, IsLaw}
 use Rattle.tidying_fitting.specs.Fitting.{is_some, fits}
 use Rattle.tidying_fitting.specs.Parts.{Tells}

@@ -11,9 +11,11 @@ use Rattle.table.specs.Table.{record_words}
 use Rattle.table.specs.Laws.{inner}
 use Rattle.tidying_laws.specs.Charge.{records_bound}
 use Rattle.tidying_laws.specs.Tidier.{Place, itself, places, lowest, found, tidy_step}
-use Rattle.tidying_laws.specs.Found.{first_nth, places_records}
-use Rattle.tidying_laws.specs.ByNumber.{law_of, law_at}
-use Rattle.tidying_laws.specs.Tidy.{Step, step}
+use Rattle.tidying_laws.proofs.Found.{first_nth, places_records}
+use Rattle.tidying_laws.specs.ByNumber.{law_of}
+use Rattle.tidying_laws.proofs.ByNumber.{law_at}
+use Rattle.tidying_laws.specs.Tidy.{Step}
+use Rattle.tidying_laws.proofs.Tidy.{step}
 use Rattle.tidying_shapes.specs.Skeleton.{Token, skeleton_in, skeleton, width, token, inner_skeleton, pair_row, pair_in}
 use Rattle.tidying_shapes.specs.Skeleton.{alone as in-series}
 use Rattle.tidying_shapes.specs.Tokens.{Says}

@@ -7,7 +7,8 @@ use Rattle.meaning.specs.Node.{Node}
 use Rattle.table.specs.Table.{record_words, record_count}
 use Rattle.tidying_laws.specs.Measures.{weight}
 use Rattle.tidying_laws.specs.Tidier.{found, tidy_step, tidy}
-use Rattle.tidying_laws.specs.Tidy.{Step, step, tidy_still}
+use Rattle.tidying_laws.specs.Tidy.{Step}
+use Rattle.tidying_laws.proofs.Tidy.{step, tidy_still}
 use Rattle.tidying_shapes.specs.Skeleton.{skeleton}
 use Rattle.tidying_shapes.specs.Tokens.{tokens_of}
 use Rattle.tidying_shapes.specs.Parse.{first_part, parse}

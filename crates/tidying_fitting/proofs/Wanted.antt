@@ -10,7 +10,8 @@ use Rattle.table.specs.Table.{record_count, empty_kind, sequence_kind, alternati
 use Rattle.table.specs.Laws.{inner, kind_of}
 use Rattle.tidying_laws.specs.Groups.{group_free, proper_positive}
 use Rattle.tidying_laws.specs.Alternatives.{past}
-use Rattle.tidying_laws.specs.ByNumber.{law_of, IsLaw, no_law}
+use Rattle.tidying_laws.specs.ByNumber.{law_of, IsLaw}
+use Rattle.tidying_laws.proofs.ByNumber.{no_law}
 use Rattle.tidying_laws.specs.Laws.{is_empty, t7}
 use Rattle.tidying_fitting.specs.Fitting.{is_some, fits}
 use Rattle.table.specs.Stands.{Ends}

@@ -7,7 +7,7 @@ use Rattle.std.proofs.Math.ListN.{get_or-eq_default}
 use Rattle.meaning.specs.Node.{Node}
 use Rattle.tidying_laws.specs.List.{laws}
 use Rattle.tidying_laws.specs.Tidier.{lowest}
-use Rattle.tidying_laws.specs.Found.{nth, first_nth}
+use Rattle.tidying_laws.specs.Found.{nth}
 
 -- The law that fits nothing.
 abbrev pub nothing : Node → Option Node
@@ -23,35 +23,7 @@ law_of k = nth nothing laws k
 abbrev pub IsLaw : ℕ → Type 0
 IsLaw k = (1 ≤ k) × (k ≤ law_count)
 
-pub no_law : (k : ℕ) → (IsLaw k → ⊥) → law_of k ≡ nothing
-unfolding law_of law_count
-no_law zero h = refl
-no_law (suc k) h = go (dec_le (suc k) (length laws))
-  where
-    go : Dec (suc k ≤ length laws) → law_of (suc k) ≡ nothing
-    go (yes l) = absurd (h (omega arith, l))
-    go (no l) = get_or-eq_default (nothing ∷ laws) nothing {n = suc k} (omega arith)
-
--- So a law that fits has a number.
-pub is_law : (k : ℕ) (x y : Node) → law_of k x ≡ some y → IsLaw k
-unfolding law_of
-is_law zero x y e = absurd (none-ne-some y e)
-is_law (suc k) x y e = (omega arith, go (dec_le (suc k) law_count))
-  where
-    go : Dec (suc k ≤ law_count) → suc k ≤ law_count
-    go (yes h) = h
-    go (no h) = absurd (none-ne-some y (sym (ap (λ f. f x) (no_law (suc k) (λ t. h t.1))) ∙ e))
-
--- The lowest law that fits is the law of its number.
-pub law_at : (x y : Node) (k : ℕ) → lowest x ≡ some (k, y) → law_of k x ≡ some y
-unfolding lowest law_of
-law_at x y k e = (first_nth (λ f. f x) nothing laws k y e).2
-
 -- A number that is none of 1 to n, as the last arm of a match knows it, is not from 1 to n.
 abbrev pub NoneOf : ℕ → ℕ → Type 0
 NoneOf zero k = Unit {0}
 NoneOf (suc n) k = NoneOf n k × (k ≡ suc n → ⊥)
-
-pub none_of : (n k : ℕ) → NoneOf n k → (1 ≤ k) × (k ≤ n) → ⊥
-none_of zero k h b = omega arith
-none_of (suc n) k h b = none_of n k h.0 (b.0, let other = h.1 in omega arith)

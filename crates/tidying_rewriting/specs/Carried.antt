@@ -3,7 +3,8 @@ use Rattle.std.specs.Prelude.{◌≡◌, refl, List, [], ◌∷◌, map, ℕ, ze
 use Rattle.std.proofs.Common.{sym, subst}
 use Rattle.tidying_laws.specs.Laws.{t1, t7, t8}
 use Rattle.tidying_laws.specs.List.{laws}
-use Rattle.tidying_laws.specs.ByNumber.{nothing, law_of, IsLaw, is_law}
+use Rattle.tidying_laws.specs.ByNumber.{nothing, law_of, IsLaw}
+use Rattle.tidying_laws.proofs.ByNumber.{is_law}
 use Rattle.tidying_rewriting.specs.Rewriting.{Rule, SomeFitting, Rewrites, Narrower, narrower_same, some_wide}
 use Rattle.tidying_rewriting.specs.Rewriting.{rewrites_narrow}
 

@@ -12,7 +12,7 @@ use Rattle.tidying_laws.specs.Equal.{same_eq}
 use Rattle.tidying_laws.specs.Quantified.{absorbed}
 use Rattle.tidying_laws.specs.Laws.{when, on_many, counts, is_empty, t2, t3, t4, t5, t9, t10}
 use Rattle.tidying_laws.specs.Kept.{Ok, ok_when, ok_else}
-use Rattle.tidying_laws.specs.Quantifiers.{counts_eq, tests, on_many_lem, on_assert_lem, both_greedy}
+use Rattle.tidying_laws.proofs.Quantifiers.{counts_eq, tests, on_many_lem, on_assert_lem, both_greedy}
 use Rattle.tidying_shapes.specs.Skeleton.{Token, token, skeleton_in, skeleton}
 use Rattle.tidying_rewriting.specs.Rewriting.{Rule, Narrower}
 

@@ -1,7 +1,8 @@
 -- Each arm carries out the law of its number, and no other number has a law. Assumes nothing.
 use native.Mathlib.Omega.{arith}
 use Rattle.tidying_laws.specs.List.{laws}
-use Rattle.tidying_laws.specs.ByNumber.{law_count, none_of}
+use Rattle.tidying_laws.specs.ByNumber.{law_count}
+use Rattle.tidying_laws.proofs.ByNumber.{none_of}
 use Rattle.tidying_rewriting.proofs.Carried.{carried, fits_carried, carries, carries_none}
 use Rattle.tidying.proofs.rewrite.Goals as goal
 

@@ -1,6 +1,7 @@
 -- Each number has its law's test, and no other number has a law.
 use Rattle.tidying_laws.specs.List.{laws}
-use Rattle.tidying_laws.specs.ByNumber.{law_count, law_of, none_of}
+use Rattle.tidying_laws.specs.ByNumber.{law_count, law_of}
+use Rattle.tidying_laws.proofs.ByNumber.{none_of}
 use Rattle.tidying_fitting.proofs.Wanted.{as_law, as_none}
 use Rattle.tidying_fitting.proofs.fits.Goals as goal
 

@@ -14,7 +14,7 @@ use Rattle.meaning.specs.Flat.{Kind, Kind.sequence, Kind.alternation, parts, ite
 use Rattle.tidying_laws.specs.Laws.{two, on_parts, on_alternatives, when, is_empty, is_void, filled, distinct, possible, impossible}
 use Rattle.tidying_laws.specs.Laws.{first_set, run, shared_at, share}
 use Rattle.tidying_laws.specs.Laws.{t1, t2, t3, t4, t5, t6, t7, t8, t9, t10}
-use Rattle.tidying_laws.specs.Lists.{any_has}
+use Rattle.tidying_laws.proofs.Lists.{any_has}
 use Rattle.tidying_laws.specs.Words.{OnParts, EmptyItem, OnceOrNever, ManyEmpty, ManyAssertion, LoopOfLoops}
 use Rattle.tidying_laws.specs.Words.{EqualAlternative, VoidAlternative, VoidItem, EmptySet, Leads, SameFirst}
 use Rattle.tidying_laws.specs.Words.{OptionOfOption, LoopOnceOfLoops}

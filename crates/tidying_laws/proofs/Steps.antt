@@ -4,9 +4,10 @@ use Rattle.std.specs.Prelude.{List, [], ◌∷◌, ◌++◌, map}
 use Rattle.meaning.specs.Node.{Node, Node.empty, Node.bset, Node.assert, Node.group, Node.seq, Node.alt, Node.many}
 use Rattle.tidying_laws.specs.Groups.{groups, Positive, positive_both}
 use Rattle.meaning.specs.Flat.{Kind, Kind.sequence, Kind.alternation, pair, glue}
-use Rattle.tidying_laws.specs.List.{laws, each_law}
+use Rattle.tidying_laws.specs.List.{laws}
+use Rattle.tidying_laws.proofs.List.{each_law}
 use Rattle.tidying_laws.specs.Tidier.{Place, itself, inside, whole, places, lowest, found, tidy_step}
-use Rattle.tidying_laws.specs.Found.{ok_first}
+use Rattle.tidying_laws.proofs.Found.{ok_first}
 use Rattle.meaning.specs.All.{All, all_map, all_append, all_imp}
 use Rattle.tidying_laws.specs.Kept.{Ok, ok_map}
 use Rattle.tidying_laws.specs.Kept.{Kept, in_group, in_left, in_right, in_many}

@@ -12,8 +12,8 @@ use Rattle.tidying_laws.specs.Measures.{groups_of, groups_join}
 use Rattle.tidying_laws.specs.Laws.{is_void}
 use Rattle.tidying_laws.specs.Words.{EmptyItem, EqualAlternative, VoidAlternative, VoidItem, SameFirst, rest}
 use Rattle.tidying_laws.specs.Alternatives.{Trimmed, trimmed_order, one_more, past, several_more, equal_gone, void_gone}
-use Rattle.tidying_laws.specs.Runs.{glues_join}
-use Rattle.tidying_laws.specs.Shared.{leads_share, shares_trimmed}
+use Rattle.tidying_laws.proofs.Runs.{glues_join}
+use Rattle.tidying_laws.proofs.Shared.{leads_share, shares_trimmed}
 use Rattle.tidying_laws.specs.Items.{Filled, runs_order, others_filled, dead, dead_order}
 
 -- What a law makes of a list of two or more parts is alike.

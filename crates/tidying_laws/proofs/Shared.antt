@@ -22,7 +22,8 @@ use Rattle.tidying_laws.specs.Measures.{groups_of, groups_adds}
 use Rattle.tidying_laws.specs.Tried.{glue_pair, tried, tried_all, tries}
 use Rattle.tidying_laws.specs.Charge.{extra, charge, cost, cost_adds, extra_one}
 use Rattle.tidying_laws.specs.Words.{Leads, rest}
-use Rattle.tidying_laws.specs.Runs.{Longest, run_longest}
+use Rattle.tidying_laws.specs.Runs.{Longest}
+use Rattle.tidying_laws.proofs.Runs.{run_longest}
 use Rattle.tidying_laws.specs.Laws.{first_set, Run, run, glues, shared, shared_at, share, t8}
 use Rattle.tidying_laws.specs.Kept.{Ok, ok_else, Kept}
 use Rattle.tidying_laws.specs.Alternatives.{Trimmed, further, on_alternatives_lem}

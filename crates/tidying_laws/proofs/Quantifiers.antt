@@ -11,7 +11,8 @@ use Rattle.meaning.specs.Node.{Node, Node.empty, Node.bset, Node.assert, Node.gr
 use Rattle.machine.specs.Layout.{size_of}
 use Rattle.tidying_laws.specs.Groups.{group_free}
 use Rattle.tidying_laws.specs.Alike.{Alike}
-use Rattle.tidying_laws.specs.Quantified.{absorbed, T2-one, T2-none, T3, T4-none, T4-some, T5, T9, T10}
+use Rattle.tidying_laws.specs.Quantified.{absorbed}
+use Rattle.tidying_laws.proofs.Quantified.{T2-one, T2-none, T3, T4-none, T4-some, T5, T9, T10}
 use Rattle.tidying_laws.specs.Equal.{same_eq}
 use Rattle.meaning.specs.Flat.{Kind.sequence, Flat}
 use Rattle.tidying_laws.specs.Measures.{weight, weighs}
