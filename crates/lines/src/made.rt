@@ -70,35 +70,35 @@ fn accepts(unused: u32) -> [u32; 120] {
     code
 }
 
-fn answer(code: &[u32; 120], text: &[u8]) {
-    run(false, code, text, 0);
+fn answer(rt: &impl Print, code: &[u32; 120], text: &[u8]) {
+    run(rt, false, code, text, 0);
 }
 
 // The answer to the code of some rows, with a number in the words that are not used, matched at the start of a text.
-pub fn ask(rows: &[u8], text: &[u8], unused: u32) {
+pub fn ask(rt: &impl Print, rows: &[u8], text: &[u8], unused: u32) {
     let mut code = accepts(unused);
     read_rows(&mut code, rows);
-    answer(&code, text);
+    answer(rt, &code, text);
 }
 
-fn every(code: &[u32; 120], text: &[u8]) {
-    answers::list(code, text, 0, 8);
+fn every(rt: &impl Print, code: &[u32; 120], text: &[u8]) {
+    answers::list(rt, code, text, 0, 8);
 }
 
 // Every match of the code of some rows.
-pub fn list(rows: &[u8], text: &[u8]) {
+pub fn list(rt: &impl Print, rows: &[u8], text: &[u8]) {
     let mut code = accepts(0);
     read_rows(&mut code, rows);
-    every(&code, text);
+    every(rt, &code, text);
 }
 
-fn answer_plain(code: &[u32; 120], text: &[u8]) {
-    second(false, code, text, 0);
+fn answer_plain(rt: &impl Print, code: &[u32; 120], text: &[u8]) {
+    second(rt, false, code, text, 0);
 }
 
 // The answer of the second engine to the code of some rows.
-pub fn ask_plain(rows: &[u8], text: &[u8]) {
+pub fn ask_plain(rt: &impl Print, rows: &[u8], text: &[u8]) {
     let mut code = accepts(0);
     read_rows(&mut code, rows);
-    answer_plain(&code, text);
+    answer_plain(rt, &code, text);
 }

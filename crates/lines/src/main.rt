@@ -1,21 +1,22 @@
 // Questions to the compiler and the engine, whose answers the outline says or a hand counts by its steps. They stand in the file
 // `stdin`, two lines each: what is asked, and the text. A line of the output has both, and the answer.
+#![tactic(auto)]
+
 mod answers;
+mod input;
 mod limits;
 mod made;
 mod questions;
 mod readings;
 
-use libc::STDIN_FILENO;
-
-fn main() {
-    let mut input = [0u8; 8192];
-    let count = io::read_full(STDIN_FILENO, &mut input);
-    questions::ask_all(&input[0..count]);
-    limits::far();
-    limits::in_order();
-    limits::groups();
-    limits::all_in_order();
-    limits::plain_far();
-    limits::plain_in_order();
+fn main(rt: HostRuntime) {
+    let mut text = [0u8; 8192];
+    let count = input::read_full(&mut rt.stdin(), &mut text);
+    questions::ask_all(&rt, &text[0..count]);
+    limits::far(&rt);
+    limits::in_order(&rt);
+    limits::groups(&rt);
+    limits::all_in_order(&rt);
+    limits::plain_far(&rt);
+    limits::plain_in_order(&rt);
 }

@@ -37,117 +37,122 @@ fn rest(line: &[u8], from: usize) -> &[u8] {
     }
 }
 
-fn on(text: &[u8]) {
-    say(b" on \"");
-    say(text);
-    say(b"\"");
+fn on(rt: &impl Print, text: &[u8]) {
+    say(rt, b" on \"");
+    say(rt, text);
+    say(rt, b"\"");
 }
 
 // A pattern searched from a start on, or else matched there.
-fn run(search: bool, pattern: &[u8], text: &[u8], start: usize) {
-    on(text);
+fn run(rt: &impl Print, search: bool, pattern: &[u8], text: &[u8], start: usize) {
+    on(rt, text);
     let code = code_of(pattern);
-    answers::run(search, &code, text, start);
+    answers::run(rt, search, &code, text, start);
 }
 
 // The same by the second engine.
-fn run_plain(search: bool, pattern: &[u8], text: &[u8], start: usize) {
+fn run_plain(rt: &impl Print, search: bool, pattern: &[u8], text: &[u8], start: usize) {
     let code = code_of(pattern);
-    answers::second(search, &code, text, start);
+    answers::second(rt, search, &code, text, start);
 }
 
 // A question to the second engine, by its first letter.
-fn ask_plain(question: &[u8], text: &[u8]) {
-    on(text);
+fn ask_plain(rt: &impl Print, question: &[u8], text: &[u8]) {
+    on(rt, text);
     match byte_at(question, 0) {
         b'm' => run_plain(
+            rt,
             false,
             rest(question, 8),
             text,
             digit_at(question, 6) as usize,
         ),
         b's' => run_plain(
+            rt,
             true,
             rest(question, 9),
             text,
             digit_at(question, 7) as usize,
         ),
-        _ => made::ask_plain(rest(question, 4), text),
+        _ => made::ask_plain(rt, rest(question, 4), text),
     }
 }
 
 // A pattern found in one call.
-fn find(pattern: &[u8], text: &[u8], start: usize) {
-    on(text);
-    found(pattern, text, start);
+fn find(rt: &impl Print, pattern: &[u8], text: &[u8], start: usize) {
+    on(rt, text);
+    found(rt, pattern, text, start);
 }
 
 // Every match of a pattern, into so many words.
-fn all(pattern: &[u8], text: &[u8], start: usize, words: usize) {
-    on(text);
+fn all(rt: &impl Print, pattern: &[u8], text: &[u8], start: usize, words: usize) {
+    on(rt, text);
     let code = code_of(pattern);
-    answers::list(&code, text, start, words);
+    answers::list(rt, &code, text, start, words);
 }
 
 // One question, by its first letter.
-fn ask(question: &[u8], text: &[u8]) {
-    say(question);
+fn ask(rt: &impl Print, question: &[u8], text: &[u8]) {
+    say(rt, question);
     match byte_at(question, 0) {
         b'm' => run(
+            rt,
             false,
             rest(question, 8),
             text,
             digit_at(question, 6) as usize,
         ),
         b's' => run(
+            rt,
             true,
             rest(question, 9),
             text,
             digit_at(question, 7) as usize,
         ),
-        b'f' => find(rest(question, 7), text, digit_at(question, 5) as usize),
+        b'f' => find(rt, rest(question, 7), text, digit_at(question, 5) as usize),
         b'a' => {
             if byte_at(question, 1) == b'l' {
                 let start = digit_at(question, 4) as usize;
                 all(
+                    rt,
                     rest(question, 8),
                     text,
                     start,
                     digit_at(question, 6) as usize,
                 )
             } else {
-                on(text);
-                readings::gate(question, text)
+                on(rt, text);
+                readings::gate(rt, question, text)
             }
         }
         b'e' => {
-            on(text);
-            made::list(rest(question, 5), text)
+            on(rt, text);
+            made::list(rt, rest(question, 5), text)
         }
-        b'c' => compiled(rest(question, 8)),
-        b't' => tidied(rest(question, 7)),
+        b'c' => compiled(rt, rest(question, 8)),
+        b't' => tidied(rt, rest(question, 7)),
         b'n' => {
-            on(text);
-            readings::number(question, text)
+            on(rt, text);
+            readings::number(rt, question, text)
         }
         b'b' => {
-            on(text);
-            readings::gate(question, text)
+            on(rt, text);
+            readings::gate(rt, question, text)
         }
-        b'p' => ask_plain(rest(question, 6), text),
+        b'p' => ask_plain(rt, rest(question, 6), text),
         b'u' => {
-            on(text);
-            made::ask(rest(question, 6), text, 1)
+            on(rt, text);
+            made::ask(rt, rest(question, 6), text, 1)
         }
         _ => {
-            on(text);
-            made::ask(rest(question, 4), text, 0)
+            on(rt, text);
+            made::ask(rt, rest(question, 4), text, 0)
         }
     }
 }
 
 // The question at a place, and the place of the next one.
-fn ask_at(input: &[u8], at: usize) -> usize
+fn ask_at(rt: &impl Print, input: &[u8], at: usize) -> usize
     requires { at < length input.now }
     ensures { (at < result) × (result ≤ length input.now) }
 {
@@ -157,16 +162,16 @@ fn ask_at(input: &[u8], at: usize) -> usize
     }
     let second = lf + 1;
     let stop = intake_report::find_lf(input, second, input.len());
-    ask(&input[at..lf], &input[second..stop]);
+    ask(rt, &input[at..lf], &input[second..stop]);
     if input.len() <= stop {
         return input.len();
     }
     stop + 1
 }
 
-pub fn ask_all(input: &[u8]) {
+pub fn ask_all(rt: &impl Print, input: &[u8]) {
     let mut at: usize = 0;
     while at < input.len() {
-        at = ask_at(input, at);
+        at = ask_at(rt, input, at);
     }
 }

@@ -4,12 +4,11 @@ ghost use Rattle.std.specs.Prelude.{◌<◌};
 
 use crate::answers::{say, say_number};
 use crate::questions::{byte_at, digit_at};
-use libc::STDOUT_FILENO;
 use millkettle::{Field, Gate, Passing};
 
-fn say_refused(number: u32, place: usize) {
-    say_number(b": refused ", number as u64);
-    say_number(b" at ", place as u64);
+fn say_refused(rt: &impl Print, number: u32, place: usize) {
+    say_number(rt, b": refused ", number as u64);
+    say_number(rt, b" at ", place as u64);
 }
 
 // A value's bits, and 0 for what is no number.
@@ -20,25 +19,26 @@ fn bits_of(value: f64) -> u64 {
     0
 }
 
-fn say_field(answer: Field) {
+fn say_field(rt: &impl Print, answer: Field) {
     match answer {
         Field::Number(reading) => {
-            say(b": bits ");
-            io::print_hex(STDOUT_FILENO, bits_of(reading.value), 16);
-            say_number(b", decimals ", reading.decimals as u64);
+            say(rt, b": bits ");
+            let bits = bits_of(reading.value);
+            let _ = print!(rt; "{bits:016x}");
+            say_number(rt, b", decimals ", reading.decimals as u64);
         }
-        Field::Refused { number, place } => say_refused(number, place),
+        Field::Refused { number, place } => say_refused(rt, number, place),
     }
-    say(b"\n");
+    say(rt, b"\n");
 }
 
-fn say_passing(answer: Passing) {
+fn say_passing(rt: &impl Print, answer: Passing) {
     match answer {
-        Passing::Passes => say(b": passes"),
-        Passing::Stopped => say(b": stopped"),
-        Passing::Refused { number, place } => say_refused(number, place),
+        Passing::Passes => say(rt, b": passes"),
+        Passing::Stopped => say(rt, b": stopped"),
+        Passing::Refused { number, place } => say_refused(rt, number, place),
     }
-    say(b"\n");
+    say(rt, b"\n");
 }
 
 // The register that two bytes say.
@@ -54,8 +54,11 @@ fn register_at(line: &[u8], at: usize) -> i32
 }
 
 // A span of the text as a number.
-pub fn number(question: &[u8], text: &[u8]) {
-    say_field(millkettle::read_field(text, register_at(question, 7), register_at(question, 10)));
+pub fn number(rt: &impl Print, question: &[u8], text: &[u8]) {
+    say_field(
+        rt,
+        millkettle::read_field(text, register_at(question, 7), register_at(question, 10)),
+    );
 }
 
 // The limit that bytes of a question say.
@@ -78,11 +81,11 @@ fn end_of(text: &[u8]) -> i32 {
 }
 
 // Whether a gate passes the whole text.
-pub fn gate(question: &[u8], text: &[u8]) {
+pub fn gate(rt: &impl Print, question: &[u8], text: &[u8]) {
     let gate = match byte_at(question, 3) {
         b'm' => Gate::AtMost(limit_of(question, 8, 13)),
         b'l' => Gate::AtLeast(limit_of(question, 9, 14)),
         _ => Gate::Between(limit_of(question, 8, 13), limit_of(question, 14, 19)),
     };
-    say_passing(millkettle::pass_field(gate, text, 0, end_of(text)));
+    say_passing(rt, millkettle::pass_field(gate, text, 0, end_of(text)));
 }
