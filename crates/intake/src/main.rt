@@ -1,17 +1,19 @@
 // The intake program: a pattern line and text lines from standard input, a line for each to standard output.
+#![tactic(auto)]
+
 ghost use Rattle.std.specs.Prelude.{◌≡◌};
 ghost use Rattle.intake.specs.Standing.{goes_on, Through, Turned};
 
 use intake_feeding::KEPT_LIMIT;
 use intake_lines::Phase;
-use libc::{STDERR_FILENO, STDIN_FILENO, STDOUT_FILENO};
 use meaning::limits::{CODE_SIZE, TABLE_SIZE, WORKSPACE_SIZE};
+use std::io::Read;
 
 // The bytes of the buffers for what is read and for what is written.
 const BUFFER_SIZE: usize = 65536;
 
 // Where the work stands between two pieces of the input, how many bytes of the present line are kept, and whether a write failed.
-#[derive(Drop)]
+#[derive(Clone, Copy)]
 struct Standing {
     phase: Phase,
     kept: usize,
@@ -31,19 +33,19 @@ fn goes_on(standing: Standing) -> bool
 }
 
 // Writes to standard output, or says that it cannot.
-fn send(text: &[u8]) -> bool {
-    if io::write_all(STDOUT_FILENO, text) {
-        return true;
+fn send(rt: &(impl Print + Eprint), text: &[u8]) -> bool {
+    match rt.write_all(text) {
+        Ok(()) => true,
+        Err(_) => {
+            let _ = eprintln!(rt; "intake: standard output cannot be written");
+            false
+        }
     }
-    io::write_all(
-        STDERR_FILENO,
-        b"intake: standard output cannot be written\n",
-    );
-    false
 }
 
 // A piece of the input, with a write for each buffer that it fills; a write that fails is the last.
 fn work_through(
+    rt: &(impl Print + Eprint),
     standing: Standing,
     piece: &[u8],
     line: &mut [u8; KEPT_LIMIT],
@@ -72,7 +74,7 @@ fn work_through(
         now = Standing {
             phase: next,
             kept: fed.kept,
-            failed: !send(&text[..end]),
+            failed: !send(rt, &text[..end]),
         };
         from += fed.taken;
     }
@@ -81,6 +83,7 @@ fn work_through(
 
 // What was read: a piece of the input, or no byte, which is its end.
 fn turn(
+    rt: &(impl Print + Eprint),
     standing: Standing,
     piece: &[u8],
     line: &mut [u8; KEPT_LIMIT],
@@ -93,7 +96,7 @@ fn turn(
         code.new out.old out.new result }
 {
     if piece.len() > 0 {
-        return work_through(standing, piece, line, table, code, workspace, out);
+        return work_through(rt, standing, piece, line, table, code, workspace, out);
     }
     let phase = standing.phase;
     let fed = intake_feeding::finish(phase, standing.kept, line, table, code, workspace, out);
@@ -102,12 +105,12 @@ fn turn(
     Standing {
         phase: Phase::Over,
         kept: 0,
-        failed: !send(&text[..end]),
+        failed: !send(rt, &text[..end]),
     }
 }
 
 // A proved loop has to end, and nothing says that the input does: the turns count down from a number that no run uses up.
-fn main() {
+fn main(rt: HostRuntime) {
     let mut chunk = [0u8; BUFFER_SIZE];
     let mut out = [0u8; BUFFER_SIZE];
     let mut line = [0u8; KEPT_LIMIT];
@@ -119,15 +122,18 @@ fn main() {
         kept: 0,
         failed: false,
     };
+    let mut input = rt.stdin();
     let mut turns = u64::MAX;
     while turns > 0 && goes_on(standing) {
-        let got = libc::read(STDIN_FILENO, &mut chunk);
-        if got < 0 {
-            io::write_all(STDERR_FILENO, b"intake: standard input cannot be read\n");
-            return;
-        }
-        let n = io::count(got, &chunk);
+        let n = match input.read(&mut chunk) {
+            Ok(n) => n,
+            Err(_) => {
+                let _ = eprintln!(rt; "intake: standard input cannot be read");
+                return;
+            }
+        };
         standing = turn(
+            &rt,
             standing,
             &chunk[..n],
             &mut line,
