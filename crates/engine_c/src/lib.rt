@@ -1,5 +1,7 @@
 // Millkettle for a caller in Rust or C that lends words: table, code, registers, list and workspace as they are and of any size.
 // Nothing is copied. The header millkettle.h says it in C.
+#![tactic(auto)]
+
 ghost use Rattle.std.specs.Prelude.{◌≡◌};
 ghost use Rattle.machine.specs.Steps.{search_row, match_row};
 ghost use Rattle.millkettle.specs.Calls.Compiling.{plain, tidied};

@@ -1,8 +1,8 @@
-// Millkettle for programs in other languages: numbers and byte slices, words as four bytes, low byte first. The header
-// millkettle.h says it in C.
+// Millkettle for programs in other languages: numbers and byte slices, words as four bytes, low byte first. The static library
+// `host_c` exports these calls, and the header millkettle.h says it in C.
 #![tactic(auto)]
 
-mod readings; // readings.rt: fields as numbers, and gates
+pub mod readings; // readings.rt: fields as numbers, and gates
 
 ghost use Rattle.std.specs.Prelude.{◌≡◌, true, false, cond, min};
 ghost use Rattle.machine.specs.Steps.{search_row, match_row};
@@ -119,16 +119,14 @@ fn compile_lent(tidying: bool, pattern: &[u8], code: &mut [u8]) -> Compiled
 
 // Compiles a pattern into lent bytes. Answers 0 with the rows and groups, and the code's bytes stand in front of those
 // that stood behind them; or the number and place of a refusal, and all bytes are as they were.
-#[unsafe(no_mangle)]
-pub extern "C" fn millkettle_compile(pattern: &[u8], code: &mut [u8]) -> Compiled
+pub fn millkettle_compile(pattern: &[u8], code: &mut [u8]) -> Compiled
     ensures { CompilesBytes plain pattern.now code.old result code.new }
 {
     compile_lent(false, pattern, code)
 }
 
 // Compiles the tidied pattern. Answers as `millkettle_compile` does, but 16 is by the tidied pattern's rows.
-#[unsafe(no_mangle)]
-pub extern "C" fn millkettle_compile_tidied(pattern: &[u8], code: &mut [u8]) -> Compiled
+pub fn millkettle_compile_tidied(pattern: &[u8], code: &mut [u8]) -> Compiled
     ensures { CompilesBytes tidied pattern.now code.old result code.new }
 {
     compile_lent(true, pattern, code)
@@ -176,13 +174,7 @@ fn run_lent(searching: bool, code: &[u8], text: &[u8], start: usize, registers: 
 
 // Matches at the start. Answers 0 with found or none and the count, and the registers' bytes stand in front of those
 // that stood behind them; or the number of a refusal, and all bytes are as they were.
-#[unsafe(no_mangle)]
-pub extern "C" fn millkettle_match(
-    code: &[u8],
-    text: &[u8],
-    start: usize,
-    registers: &mut [u8],
-) -> Ran
+pub fn millkettle_match(code: &[u8], text: &[u8], start: usize, registers: &mut [u8]) -> Ran
     ensures { RunsBytes match_row code.now text.now start registers.old result
         registers.new }
 {
@@ -190,13 +182,7 @@ pub extern "C" fn millkettle_match(
 }
 
 // Searches from the start on, for the first position that matches. Answers as `millkettle_match` does.
-#[unsafe(no_mangle)]
-pub extern "C" fn millkettle_search(
-    code: &[u8],
-    text: &[u8],
-    start: usize,
-    registers: &mut [u8],
-) -> Ran
+pub fn millkettle_search(code: &[u8], text: &[u8], start: usize, registers: &mut [u8]) -> Ran
     ensures { RunsBytes search_row code.now text.now start registers.old result
         registers.new }
 {
@@ -205,8 +191,7 @@ pub extern "C" fn millkettle_search(
 
 // Matches at the start by the second engine, in words that are lent as they are: its workspace is as large as its formula says.
 // Answers 0 with found or none and the count, or the number of a refusal, and all is as it was.
-#[unsafe(no_mangle)]
-pub extern "C" fn millkettle_second_match(
+pub fn millkettle_second_match(
     code: &[u32],
     text: &[u8],
     start: usize,
@@ -221,8 +206,7 @@ pub extern "C" fn millkettle_second_match(
 }
 
 // Searches from the start on by the second engine. Answers as `millkettle_second_match` does.
-#[unsafe(no_mangle)]
-pub extern "C" fn millkettle_second_search(
+pub fn millkettle_second_search(
     code: &[u32],
     text: &[u8],
     start: usize,

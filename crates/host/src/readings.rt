@@ -69,8 +69,7 @@ fn passed_numbers(answer: Passing) -> Passed
 }
 
 // Reads the span of a text from two registers as a number. Answers 0 with its value and decimals, or 28.
-#[unsafe(no_mangle)]
-pub extern "C" fn millkettle_read_field(text: &[u8], start: i32, end: i32) -> Read
+pub fn millkettle_read_field(text: &[u8], start: i32, end: i32) -> Read
     ensures { result ≡ field_numbers (field_of text.now start end) }
 {
     field_numbers(millkettle::read_field(text, start, end))
@@ -78,8 +77,7 @@ pub extern "C" fn millkettle_read_field(text: &[u8], start: i32, end: i32) -> Re
 
 // Whether a value lies between two limits, ends included. Answers 0 with 1 or 0, or 29 for a limit that is no number. At most
 // and at least have an infinity as their other limit.
-#[unsafe(no_mangle)]
-pub extern "C" fn millkettle_pass(low: f64, high: f64, value: f64) -> Passed
+pub fn millkettle_pass(low: f64, high: f64, value: f64) -> Passed
     ensures { result ≡ passed_numbers (passing_value (Gate.Between low high) value) }
 {
     let reading = Reading { value, decimals: 0 };
