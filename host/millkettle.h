@@ -2,9 +2,9 @@
  *
  * There are two sets of calls. Those on bytes are in target/staticlib/libhost.a, have the intake program's sizes and
  * bring their own memory; those on words (`.._words`) are in target/staticlib/libengine_c.a, have the library's own
- * limits, and all memory is lent. `rt staticlib host` and `rt staticlib engine_c` write the archives for x86-64 Linux;
- * link one or both. Of C they need memcpy, memmove and memset and nothing else: no heap, no file, no global state, so
- * calls may run at the same time on memory of their own.
+ * limits, and all memory is lent. `host/archives` proves them and writes them for x86-64 Linux; link one or both. Of C
+ * they need memcpy, memmove and memset and nothing else: no heap, no file, no global state, so calls may run at the
+ * same time on memory of their own.
  *
  * On bytes, words are passed four bytes to a word, low byte first; a register is a signed word in two's complement.
  * Where a slice's length is no multiple of four, the bytes behind its last whole word are neither read nor written.

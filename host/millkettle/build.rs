@@ -1,5 +1,5 @@
 //! Links the proved archives, libhost.a and libengine_c.a: from the folder that
-//! MILLKETTLE_ARCHIVE_DIR names, or else from where `rt staticlib` writes them.
+//! MILLKETTLE_ARCHIVE_DIR names, or else from where `host/archives` writes them.
 
 use std::env;
 use std::path::PathBuf;
@@ -15,7 +15,7 @@ fn main() {
     for name in ["host", "engine_c"] {
         let archive = folder.join(format!("lib{name}.a"));
         if !archive.is_file() {
-            panic!("no {}: run `rt staticlib {name}` first", archive.display());
+            panic!("no {}: run `host/archives` first", archive.display());
         }
         println!("cargo:rerun-if-changed={}", archive.display());
         println!("cargo:rustc-link-lib=static={name}");
