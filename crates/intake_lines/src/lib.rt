@@ -18,7 +18,7 @@ pub const LINE_LIMIT: usize = 4096;
 pub const LINE_ROOM: usize = 12 * REGISTER_LIMIT + 1;
 
 // Where the work stands: at the pattern line, at text lines, or over, since the pattern was refused.
-#[derive(Drop)]
+#[derive(Clone, Copy)]
 pub enum Phase {
     Pattern,
     Texts,

@@ -1,0 +1,13 @@
+-- The input's end is finished.
+use Rattle.std.proofs.Common.{rules, refl, arith}
+use Rattle.intake_feeding.specs.Laws.{last_text_lem}
+use Rattle.intake.proofs.turn.Goals as goal
+
+pub returns : goal.returns
+returns g c =
+    let a = c.args in
+    let text = last_text_lem a.standing.phase a.standing.kept a.line.now a.code.now (search rules) c.finish-fed.ensures.feeds in
+    record {
+      read = λ h. absurd (omega (arith, c.if-piece-gt0.false));
+      ended = λ _. record { end = c.finish-fed.result.end; text_is = text; over = refl };
+    }
