@@ -1,6 +1,6 @@
 -- From what a public call promises to the promise of the call on lent words.
 use Rattle.std.specs.Prelude.{◌≡◌, Bool, List, ℕ, ℤ}
-use Rattle.std.proofs.Common.{sym, ap, ◌∙◌, arith}
+use Rattle.std.proofs.Common.{ap, ◌∙◌, arith}
 use Rattle.machine.specs.Replies.{Reply.refused}
 use Rattle.millkettle.specs.Calls.Compiling.{Compiles}
 use Rattle.millkettle.specs.Calls.{Compilation, Answer, Listing}
