@@ -8,6 +8,6 @@ returns g c =
     let a = c.args in
     let text = last_text_lem a.standing.phase a.standing.kept a.line.now a.code.now (search rules) c.finish-fed.ensures.feeds in
     record {
-      read = λ h. absurd (omega (arith, c.if-piece-gt0.false));
+      read = λ h. absurd (omega arith);
       ended = λ _. record { end = c.finish-fed.result.end; text_is = text; over = refl };
     }
