@@ -1,15 +1,10 @@
 pub mod Patterns
 pub mod Runs
-pub mod Tight
 pub mod Tidied
 pub mod AllMatches
 pub mod Seconds
-pub mod Demands
-pub mod Pinned
 pub mod Impossible
-pub mod Cheats
 pub mod OnePattern
-pub mod Untidied
 pub mod HostPatterns
 pub mod HostCodes
 pub mod HostRuns

@@ -26,7 +26,7 @@ use Rattle.engine.specs.declared.Answer.TheVariants.{Found, Missing, Refused}
 use Rattle.millkettle.specs.Laws.{Way, Way.matching, Way.searching, row_of, standard_by, finds, conditions}
 use Rattle.reading_grammar.specs.Grammar.{Derives}
 use Rattle.reading_grammar.proofs.Sound.{Sound, sound}
-use Rattle.demands.specs.Patterns.{Replies, answered_exactly, derives, derived_bytes}
+use Rattle.demands.specs.Patterns.{Replies}
 
 -- Answers of one reply are the same, and a run's reply has its count.
 unfoldable pub answer_as : Reply → Answer
@@ -34,85 +34,10 @@ answer_as (found n) = Found n
 answer_as (missing n) = Missing n
 answer_as (refused n) = Refused n
 
-told_back : (r : Answer) → answer_as (reply_of r) ≡ r
-unfolding answer_as
-told_back (Found n) = refl
-told_back (Missing n) = refl
-told_back (Refused n) = refl
-
-pub one_answer : (r q : Answer) → reply_of r ≡ reply_of q → r ≡ q
-one_answer r q e = sym (told_back r) ∙ ap answer_as e ∙ told_back q
-
-pub count_of_lem : (o : Option Regs) (n : ℕ) → (values_of (answer_of o n)).count ≡ n
-count_of_lem none n = refl
-count_of_lem (some ρ) n = refl
-
 -- The machine of a run after so many steps: the run itself is the one after enough of them.
 abbrev pub steps_of : List ℕ → List ℕ → ℕ → ℕ → ℕ → Machine
 steps_of code text start row m =
     steps (move_of (text_of text) (decode code).rows) m (begun start (first_thread (decode code) row ∷ []))
-
--- Both ways begin at a row that any code has.
-pub row_few : (way : Way) → row_of way < least_rows
-row_few matching = omega arith
-row_few searching = omega arith
-
--- A run that is not turned away: it has ended, and on its way no more than two rows are executed for each row at any one
--- position, and so for each position.
-module _ (way : Way) (code text : List ℕ) (start : ℕ) (registers : List ℤ) (workspace : List ℕ)
-    (e : refusal code (lent_by text start registers workspace) ≡ 0) where
-  allows : Allowed code (lent_by text start registers workspace)
-  allows = allowed code (lent_by text start registers workspace) e
-
-  ready_code : Ready code
-  ready_code = ready code allows.passes
-
-  row_low : row_of way < length (rows_in code (rows_said code) 0)
-  row_low = omega (arith, rows_in_length code (rows_said code) 0, ready_code.least, row_few way)
-
-  pub ended_run : Done (run_of code text start (row_of way))
-  ended_run = run_done (decode code) ready_code.rows (text_of text) start (row_of way) row_low allows.inside
-
-  pub position_rows : (m : ℕ) → length (seen (steps_of code text start (row_of way) m)) ≤ 2 * rows_said code
-  position_rows m =
-      omega (
-        arith,
-        rows_in_length code (rows_said code) 0,
-        run_at_position (decode code) ready_code.rows (text_of text) start (row_of way) row_low allows.inside m,
-      )
-
-  pub few_rows : count (run_of code text start (row_of way)) ≤ 2 * rows_said code * (length text - start + 1)
-  few_rows = subst (λ (n : ℕ). count (run_of code text start (row_of way)) ≤ 2 * n * (length text - start + 1))
-      (rows_in_length code (rows_said code) 0)
-      (run_frugal (decode code) ready_code.rows (text_of text) start (row_of way) row_low allows.inside)
-
--- Demand 1: for any code, text, start and buffers, at most two rows are executed for each row and position,
-module _ {code text : List ℕ} {start row : ℕ} {registers registers' : List ℤ} {workspace workspace' : List ℕ} {r : Answer}
-    (a : Answered code text start row registers workspace r registers' workspace') where
-  abbrev lent : Lent
-  lent = lent_by text start registers workspace
-
-  abbrev M : Machine
-  M = run_of code text start row
-
-  pub bounded_rows : executed r ≤ 2 * rows_said code * (length text - start + 1)
-  bounded_rows = a.bounded
-
-  pub replied : (k : ℕ) → refusal code lent ≡ k → reply_of r ≡ reply_to k (best M) (count M)
-  unfolding reply
-  replied k e = a.replies ∙ ap (λ n. reply_to n (best M) (count M)) e
-
-  -- a run that is not turned away reports the steps' count,
-  pub counted_rows : refusal code lent ≡ 0 → executed r ≡ count M
-  counted_rows e = ap (λ x. (values_of x).count) (replied 0 e) ∙ count_of_lem (best M) (count M)
-
-  -- and one that is turned away says the first number in order whose condition holds, and changes nothing.
-  pub turned_rows : (k : ℕ) → refusal code lent ≡ suc k
-      → (r ≡ Refused (suc k)) × (registers' ≡ registers) × (workspace' ≡ workspace)
-  unfolding registers_after
-  turned_rows k e =
-      let is : r ≡ Refused (suc k) = one_answer r (Refused (suc k)) (replied (suc k) e) in
-      (is, a.spans ∙ ap (λ k. registers_from k (groups_said code) (best M) registers) e, a.untouched (suc k) is)
 
 -- Demand 2: code that says the program of a pattern, as `compile` leaves it, answers as the standard's algorithm does on that
 -- pattern: found with every group's span, or none exactly if that finds nothing; it is turned away only by 21 to 24.
@@ -125,25 +50,6 @@ pub record Standard (way : Way) (r : Node) (n g : ℕ) (text : List ℕ) (start 
       → registers' ≡ spans g (standard_by way text g r start) ++ drop (registers_of g) registers
   pub refuses : (k : ℕ) → turned_away n g (lent_by text start registers workspace) ≡ suc k → answer ≡ Refused (suc k)
 
-pub answers_standard : (way : Way) {code text : List ℕ} {start : ℕ} {registers registers' : List ℤ}
-    {workspace workspace' : List ℕ}
-    {n g : ℕ} {r : Node} {answer : Answer} → Bytes text → Coded code n g r
-    → Answered code text start (row_of way) registers workspace answer registers' workspace'
-    → Standard way r n g text start registers registers' workspace answer
-unfolding registers_after
-answers_standard way {code} {text} {start} {registers} {workspace = workspace} {n = n} {g = g} {r = r} bytes m a =
-    let lent : Lent = lent_by text start registers workspace in
-    let M : Machine = run_of code text start (row_of way) in
-    let same : refusal code lent ≡ turned_away n g lent = conditions m lent in
-    let same-found : turned_away n g lent ≡ 0 → best M ≡ standard_by way text g r start
-    = λ e. finds m text bytes start way (within n g lent e) in
-    record {
-      answers = λ e. replied a 0 (same ∙ e) ∙ ap₂ answer_of (same-found e) (sym (counted_rows a (same ∙ e)));
-      spans_are = λ e. a.spans ∙ ap (λ k. registers_from k (groups_said code) (best M) registers) (same ∙ e)
-          ∙ ap₂ (λ k o. registers_from 0 k o registers) m.groups_said_lem (same-found e);
-      refuses = λ k e. (turned_rows a k (same ∙ e)).0;
-    }
-
 -- So do the calls on what was compiled, plain or tidied.
 pub record SomeStandard (tidying : Bool) (way : Way) (s table text : List ℕ) (start n g : ℕ) (registers registers' : List ℤ)
     (workspace : List ℕ) (answer : Answer) : Type 0 where
@@ -151,26 +57,3 @@ pub record SomeStandard (tidying : Bool) (way : Way) (s table text : List ℕ) (
   pub is_read : reading s (length table) ≡ pattern node g
   pub is_derived : Derives s node g
   pub standard : Standard way (shaped tidying node) n g text start registers registers' workspace answer
-
--- Code that is the same says the same.
-pub coded_as : {c d : List ℕ} {n g : ℕ} {r : Node} → c ≡ d → Coded d n g r → Coded c n g r
-coded_as e m = rw e m
-
--- A pattern that is answered with rows is bytes.
-pub rows_bytes : {tidying : Bool} {s table table' code code' : List ℕ} {n g : ℕ}
-    → Compiles tidying s table table' code code' (Rows n g) → Bytes s
-rows_bytes {n = n} {g = g} c = derived_bytes (derives ((answered_exactly c (Rows n g)).0 refl)).1
-
-pub compiled_standard : (tidying : Bool) (way : Way) {s text : List ℕ} {start : ℕ} {table table' code code' : List ℕ}
-    {registers registers' : List ℤ} {workspace workspace' : List ℕ} {n g : ℕ} {answer : Answer} → Bytes text
-    → Compiles tidying s table table' code code' (Rows n g)
-    → Answered code' text start (row_of way) registers workspace answer registers' workspace'
-    → SomeStandard tidying way s table text start n g registers registers' workspace answer
-compiled_standard tidying way {s} {table = table} {code = code} {n = n} {g = g} bt h a =
-    let m : Compiled tidying s table code n g = compiled tidying s table code n g (rows_bytes h) (sym h.answers) in
-    record {
-      node = m.node;
-      is_read = m.is_read;
-      is_derived = subst (Sound s (length table)) m.is_read (sound s (length table));
-      standard = answers_standard way bt (coded_as h.code_is m.is_coded) a;
-    }

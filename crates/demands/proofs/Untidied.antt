@@ -30,7 +30,7 @@ use Rattle.compiler.specs.declared.Compilation.{Compilation}
 use Rattle.compiler.specs.declared.Compilation.TheVariants.{Rows}
 use Rattle.millkettle.specs.Compiled.{Compiled, compiled}
 use Rattle.demands.specs.Tidied.{Neat}
-use Rattle.demands.specs.Demands.{demand_3}
+use Rattle.demands.proofs.Demands.{demand_3}
 use Rattle.demands.specs.OnePattern.{one_pattern}
 use Rattle.demands.specs.Impossible.{no_bytes_lem, one_byte}
 

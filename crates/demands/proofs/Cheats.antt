@@ -22,7 +22,8 @@ use Rattle.engine.specs.declared.Answer.{Answer}
 use Rattle.engine.specs.declared.Answer.TheVariants.{Found, Missing, Refused}
 use Rattle.millkettle.specs.Laws.{Way, Way.matching, Way.searching, row_of, standard_by}
 use Rattle.demands.specs.Impossible.{table, code, registers, workspace, no_bytes_lem, one_byte}
-use Rattle.demands.specs.Runs.{answer_as, few_rows, SomeStandard, compiled_standard, counted_rows}
+use Rattle.demands.specs.Runs.{answer_as, SomeStandard}
+use Rattle.demands.proofs.Runs.{few_rows, compiled_standard, counted_rows}
 
 -- The code of the empty pattern.
 abbrev empty_code : List ℕ

@@ -13,7 +13,7 @@ use Rattle.millkettle.specs.declared.Finding.{Finding}
 use Rattle.host.specs.Surface.{CompilesBytes, RunsBytes}
 use Rattle.host.specs.declared.Compiled.{Compiled}
 use Rattle.host.specs.declared.Ran.{Ran}
-use Rattle.demands.specs.Runs.{one_answer}
+use Rattle.demands.proofs.Runs.{one_answer}
 
 -- Two replies that are one definition's agree.
 pub agree : {A : Type 0} {a b definition : A} → a ≡ definition → b ≡ definition → a ≡ b

@@ -36,15 +36,23 @@ use Rattle.intake_report.specs.Lines.{lines_of}
 use Rattle.intake_lines.specs.Intake.{compiled, intake_output}
 use Rattle.host.specs.Surface.{compiled_numbers, ran_numbers, lent_to, CompilesBytes, RunsBytes}
 use Rattle.host.specs.declared.Ran.{Ran}
-use Rattle.demands.specs.Patterns.{Replies, answered_exactly, Left, left_behind}
-use Rattle.demands.specs.Runs.{bounded_rows, counted_rows, turned_rows, ended_run, position_rows, steps_of}
-use Rattle.demands.specs.Runs.{SomeStandard, compiled_standard, rows_bytes}
-use Rattle.demands.specs.Tight.{compiled_tight, compiled_once, compiled_inner}
-use Rattle.demands.specs.HostAnswers.{kept_grounds, bytes_from, host_standard}
-use Rattle.demands.specs.IntakeAnswers.{line_saying, line_grounds, intake_standard}
-use Rattle.demands.specs.Tidied.{Neat, neat, outcome, SameSpans, same_answers, SameStandard, laws_standard}
-use Rattle.demands.specs.AllMatches.{first_number, nothing_changed, too_short, all_listed, Bounded, bounded}
-use Rattle.demands.specs.AllMatches.{SomeStandardAll, compiled_all, outcome_all, SameLists, same_lists}
+use Rattle.demands.specs.Patterns.{Replies, Left}
+use Rattle.demands.proofs.Patterns.{answered_exactly, left_behind}
+use Rattle.demands.specs.Runs.{steps_of}
+use Rattle.demands.proofs.Runs.{bounded_rows, counted_rows, turned_rows, ended_run, position_rows}
+use Rattle.demands.specs.Runs.{SomeStandard}
+use Rattle.demands.proofs.Runs.{compiled_standard, rows_bytes}
+use Rattle.demands.proofs.Tight.{compiled_tight, compiled_once, compiled_inner}
+use Rattle.demands.specs.HostAnswers.{kept_grounds, bytes_from}
+use Rattle.demands.proofs.HostAnswers.{host_standard}
+use Rattle.demands.specs.IntakeAnswers.{line_saying, line_grounds}
+use Rattle.demands.proofs.IntakeAnswers.{intake_standard}
+use Rattle.demands.specs.Tidied.{Neat, outcome, SameSpans, SameStandard}
+use Rattle.demands.proofs.Tidied.{neat, same_answers, laws_standard}
+use Rattle.demands.specs.AllMatches.{Bounded}
+use Rattle.demands.proofs.AllMatches.{first_number, nothing_changed, too_short, all_listed, bounded}
+use Rattle.demands.specs.AllMatches.{SomeStandardAll, outcome_all, SameLists}
+use Rattle.demands.proofs.AllMatches.{compiled_all, same_lists}
 
 -- Demand 1, for any bytes as a pattern, and any table and code: the answer is exactly what the grammar and the table of refusals
 -- say, 1 to 14 with their places, 15 and 16 by the rows, and rows otherwise; and what a refusal leaves is by its number.

@@ -25,7 +25,8 @@ use Rattle.engine.specs.Answers.{executed, Answered}
 use Rattle.engine.specs.declared.Answer.{Answer}
 use Rattle.millkettle.specs.Compiled.{Coded, Compiled, compiled}
 use Rattle.millkettle.specs.Laws.{Way, Way.matching, Way.searching, row_of, conditions}
-use Rattle.demands.specs.Runs.{steps_of, row_few, counted_rows, turned_rows, coded_as, rows_bytes}
+use Rattle.demands.specs.Runs.{steps_of}
+use Rattle.demands.proofs.Runs.{row_few, counted_rows, turned_rows, coded_as, rows_bytes}
 
 -- Both ways begin at a row whose flag is set.
 row_set : (way : Way) → flag_of (row_of way) ≡ true
