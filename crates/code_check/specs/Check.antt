@@ -1,14 +1,14 @@
 -- The check, row by row: what it asks of one row, and how that and the last row decide it.
 use Rattle.std.specs.Prelude.{◌≡◌, refl, false, not, ◌||◌, ◌&&◌, List, eqb, leb, ltb, length, take, drop}
 use Rattle.std.proofs.Math.Path.{sym, ap}
-use Rattle.std.proofs.Common.{ap₂, ◌∙◌, true≢false, arith, zero-add, suc-add, add-one}
+use Rattle.std.proofs.Common.{◌∙◌, true≢false, arith, zero-add, suc-add, add-one}
 use Rattle.std.proofs.Math.Bool.{Bool, true, and-eq-true_iff, and-true, and-false, and_assoc}
 use Prim.Native.Nat.{ℕ, zero, suc, ◌+◌, ◌-◌, ◌*◌, ◌≤◌, ◌<◌}
 use Rattle.std.specs.Int.Bits.{bit_or, or_add_and}
 use Rattle.std.proofs.lemmas.Nat.{and_le_r}
 use borrow.Author.Tests.{le-leb, lt-leb, leb-true, ne_eqb}
 use Rattle.sets.specs.Sets.{below, between}
-use Rattle.sets.specs.Bits.{below_all, below_at, beq_eq}
+use Rattle.sets.specs.Bits.{below_all, below_at}
 use Rattle.meaning.specs.Limits.{group_limit, row_limit, least_rows, row_words, code_words}
 use Rattle.machine.specs.Rows.{Row, row_at}
 use Rattle.machine.specs.Kinds.{accept_kind, consume_kind, jump_kind, fork_kind, open_kind, close_kind, reset_kind, begin_kind, end_kind}

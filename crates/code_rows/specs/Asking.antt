@@ -1,20 +1,18 @@
 -- What the functions that write rows ask of one another, from what they were asked and from what is written already.
-use Rattle.std.specs.Prelude.{◌≡◌, refl, Bool, true, false, List, [], ◌∷◌, ◌++◌, ℕ, suc, ◌+◌, ◌-◌, ◌*◌, ◌≤◌, ◌<◌, eqb, length}
-use Rattle.std.proofs.Common.{sym, ap₂, subst, ◌∙◌, arith}
+use Rattle.std.specs.Prelude.{◌≡◌, refl, Bool, true, false, List, ℕ, ◌+◌, ◌-◌, ◌*◌, ◌≤◌, ◌<◌, eqb, length}
+use Rattle.std.proofs.Common.{sym, subst, ◌∙◌, arith}
 use Rattle.std.proofs.Math.Path.{ap}
 use Rattle.std.proofs.Math.Option.{Option, none, some}
 use Rattle.meaning.specs.Limits.{row_limit, no_maximum}
-use Rattle.meaning.specs.Node.{Node, Node.empty, Node.bset, Node.assert, Node.group, Node.many, Within}
-use Rattle.meaning.specs.Flat.{Kind, Kind.sequence, Kind.alternation}
-use Rattle.machine.specs.Rows.{Row}
+use Rattle.meaning.specs.Node.{Node, Node.bset, Node.assert, Node.many, Within}
 use Rattle.machine.specs.Layout.{size_of, past, past_turn, rows_of}
 use Rattle.table.specs.Table.{kind_word, size_word, least_word, most_word, lazy_word, quantifier_kind}
-use Rattle.table.specs.Table.{record_words, word_of, maximum, bit_of, size_cap}
+use Rattle.table.specs.Table.{record_words, word_of, maximum, bit_of}
 use Rattle.table.specs.Roots.{root_size}
-use Rattle.code_rows.specs.Emits.{Part, Asks, Lays, fresh_size, repeats_size, turn_size, turn_of, turns_size}
+use Rattle.code_rows.specs.Emits.{Part, Asks, Lays, repeats_size, turn_size, turn_of, turns_size}
 use Rattle.code_words.specs.Wrote.{Room, Wrote}
 use Rattle.code_words.specs.Wrote.{room_before}
-use Rattle.code_rows.specs.Cases.{part_some, records_low, IsGroup, IsMany, is_many}
+use Rattle.code_rows.specs.Cases.{part_some, IsGroup, IsMany, is_many}
 use Rattle.code_rows.specs.Lines.{in_words}
 use Rattle.code_rows.specs.Shapes.{past_turn_lem}
 

@@ -7,7 +7,7 @@ use Rattle.machine.specs.Layout.{size_of, program_of}
 use Rattle.machine.specs.Words.{code_of}
 use Rattle.table.specs.Table.{word_of, size_word}
 use Rattle.table.specs.Roots.{root_size}
-use Rattle.code_rows.specs.Program.{Tabled, tabled_part, Compiling, Compiles}
+use Rattle.code_rows.specs.Program.{Tabled, Compiling, Compiles}
 use Rattle.code_rows.specs.declared.Emission.{Emission}
 use Rattle.code_rows.specs.declared.Emission.TheVariants.{Rows, TooMany, TooShort}
 

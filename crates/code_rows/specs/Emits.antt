@@ -1,6 +1,6 @@
 -- The contracts of the functions that write rows: what they ask and what they write, each as a record, so that callers name
 -- no argument.
-use Rattle.std.specs.Prelude.{◌≡◌, Bool, List, [], ◌∷◌, ◌++◌, ℕ, suc, ◌+◌, ◌*◌, ◌≤◌}
+use Rattle.std.specs.Prelude.{Bool, List, [], ◌∷◌, ◌++◌, ℕ, suc, ◌+◌, ◌*◌, ◌≤◌}
 use Rattle.meaning.specs.Node.{Node, lo, hi}
 use Rattle.meaning.specs.Results.{concat_map}
 use Rattle.machine.specs.Rows.{Row, Row.reset, Row.fork, Row.jump}

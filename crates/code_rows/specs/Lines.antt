@@ -1,8 +1,7 @@
 -- The rows of parts, one before the other: of two written pieces, of a loop that writes one part again and again, and of a
 -- loop over parts in a row.
-use Rattle.std.specs.Prelude.{◌≡◌, refl, List, [], ◌∷◌, ◌++◌, ℕ, zero, suc, ◌+◌, ◌-◌, ◌*◌, ◌≤◌, ◌<◌, length}
-use Rattle.std.proofs.Common.{sym, ap, ap₂, subst, ◌∙◌, append_assoc, append-nil, suc-mul, zero-mul, arith, length-append}
-use Rattle.meaning.specs.Limits.{code_words}
+use Rattle.std.specs.Prelude.{◌≡◌, refl, List, [], ◌∷◌, ◌++◌, ℕ, suc, ◌+◌, ◌-◌, ◌*◌, ◌≤◌, ◌<◌, length}
+use Rattle.std.proofs.Common.{sym, ap, subst, ◌∙◌, append_assoc, append-nil, suc-mul, zero-mul, arith}
 use Rattle.meaning.specs.Node.{Node}
 use Rattle.meaning.specs.Results.{concat_map}
 use Rattle.machine.specs.Rows.{Row}

@@ -1,6 +1,6 @@
 -- A whole program as code: its rows, from the last one back, and then the header row.
-use Rattle.std.specs.Prelude.{◌≡◌, refl, true, List, [], ◌∷◌, ◌++◌, ℕ, suc, ◌+◌, ◌*◌, ◌≤◌, ◌<◌, length, take, drop, replicate}
-use Rattle.std.proofs.Common.{sym, ap, ap₂, subst, ◌∙◌, append_assoc, append-nil, arith, length-take-le, drop_at}
+use Rattle.std.specs.Prelude.{◌≡◌, refl, true, List, [], ◌∷◌, ◌++◌, ℕ, ◌+◌, ◌≤◌, length, take, drop, replicate}
+use Rattle.std.proofs.Common.{sym, ap, ap₂, subst, ◌∙◌, append-nil, arith, length-take-le, drop_at}
 use Rattle.sets.specs.Sets.{Holds}
 use Rattle.sets.specs.Laws.{words_of}
 use Rattle.meaning.specs.Limits.{row_limit, least_rows, row_words, code_words}
@@ -10,7 +10,7 @@ use Rattle.machine.specs.Rows.{Row, Row.accept, Row.consume, Row.fork, Row.opens
 use Rattle.machine.specs.Rows.{Row.reset, Row.begin, Row.end as ends, row_count}
 use Rattle.machine.specs.Layout.{size_of, rows_of, any_byte, program_of}
 use Rattle.machine.specs.Laid.{program_stands}
-use Rattle.machine.specs.Words.{row_start, plain_words, code_of}
+use Rattle.machine.specs.Words.{plain_words, code_of}
 use Rattle.table.specs.Stands.{Ends}
 use Rattle.code_rows.specs.Emits.{Part}
 use Rattle.code_words.specs.Wrote.{Room, Wrote}

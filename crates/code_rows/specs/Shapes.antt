@@ -1,17 +1,17 @@
 -- What a pattern's rows are made of, by its kind: each law puts written pieces together, from the last one back.
 use Rattle.std.specs.Prelude.{◌≡◌, Bool, true, false, cond, List, [], ◌∷◌, ◌++◌, length}
 use Rattle.std.proofs.Math.Path.{refl, sym, ap}
-use Rattle.std.proofs.Common.{ap₂, subst, ◌∙◌, append_assoc, append-nil, suc-mul, zero-mul, add_assoc, arith}
-use Rattle.std.proofs.Math.Option.{Option, none, some}
-use Prim.Native.Nat.{ℕ, zero, suc, ◌+◌, ◌-◌, ◌*◌, ◌≤◌, ◌<◌}
+use Rattle.std.proofs.Common.{ap₂, ◌∙◌, append_assoc, append-nil, suc-mul, zero-mul, add_assoc, arith}
+use Rattle.std.proofs.Math.Option.{none, some}
+use Prim.Native.Nat.{ℕ, zero, suc, ◌+◌, ◌-◌, ◌*◌, ◌<◌}
 use Rattle.meaning.specs.Node.{Node, Node.empty, Node.bset, Node.assert, Node.group, Node.seq, Node.alt, Node.many}
-use Rattle.meaning.specs.Flat.{Kind, Kind.sequence, Kind.alternation, pair, Not, parts, by_parts}
-use Rattle.machine.specs.Rows.{Row, Row.consume, Row.jump, Row.fork, Row.opens, Row.closes}
-use Rattle.machine.specs.Rows.{Row.reset, Row.begin, Row.end as ends, Row.assertion}
-use Rattle.machine.specs.Layout.{size_of, fork_of, times, past, past_turn, copies, turn_rows, turns_rows, rows_of}
+use Rattle.meaning.specs.Flat.{Kind.sequence, Kind.alternation, parts, by_parts}
+use Rattle.machine.specs.Rows.{Row, Row.jump, Row.fork, Row.opens, Row.closes}
+use Rattle.machine.specs.Rows.{Row.begin, Row.end as ends}
+use Rattle.machine.specs.Layout.{size_of, fork_of, times, past, past_turn, turns_rows, rows_of}
 use Rattle.machine.specs.Laid.{past_size_of}
 use Rattle.machine.specs.Words.{plain_words}
-use Rattle.code_rows.specs.Emits.{Part, Lays, clear, fresh_size, fresh_rows, repeats_size, repeats_rows}
+use Rattle.code_rows.specs.Emits.{Part, clear, fresh_size, fresh_rows, repeats_size, repeats_rows}
 use Rattle.code_rows.specs.Emits.{turn_size, turn_of, turns_size, turns_of}
 use Rattle.table.specs.Table.{word_of, items_word}
 use Rattle.table.specs.Laws.{inner}

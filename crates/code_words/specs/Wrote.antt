@@ -1,13 +1,11 @@
 -- Laws of written rows: rows before others that are written already are written with them.
-use Rattle.std.specs.Prelude.{◌≡◌, refl, List, [], ◌∷◌, ◌++◌, ℕ, zero, suc, ◌+◌, ◌-◌, ◌*◌, ◌≤◌, ◌<◌, length, get_or, take, drop, set}
-use Rattle.std.proofs.Common.{sym, ap, ap₂, ◌∙◌, append_assoc, append-nil, add_assoc, add-one, arith, length-append, length-drop, take-append-drop, ext_get_or, get_or-take, get_or-drop, length-take-le, take-take, drop_at}
+use Rattle.std.specs.Prelude.{◌≡◌, refl, List, [], ◌++◌, ℕ, ◌+◌, ◌-◌, ◌*◌, ◌≤◌, ◌<◌, length, get_or, take, drop, set}
+use Rattle.std.proofs.Common.{sym, ap, ap₂, ◌∙◌, append_assoc, add-one, arith, length-append, length-drop, take-append-drop, length-take-le, take-take, drop_at}
 use Rattle.std.proofs.Math.Seq.{paste, paste-zero, paste-suc, take-length}
 use Rattle.std.proofs.lemmas.List.Edits.{length-paste}
 use Rattle.std.proofs.lemmas.List.{take-append-le}
-use Rattle.sets.specs.Laws.{Words}
 use Rattle.meaning.specs.Limits.{row_limit, row_words, code_words}
 use Rattle.machine.specs.Words.{row_start}
-use Rattle.table.specs.Table.{record_words}
 
 -- Code has the words of the rows before row `end`, which are no more than there may be.
 pub record Room (code : List ℕ) (end : ℕ) : Type 0 where

@@ -1,27 +1,27 @@
 -- Demand 2 on rows: the machine answers what the standard's algorithm does, every group included.
 use Rattle.std.specs.Prelude.{◌≡◌, refl, Bool, ◌||◌, List, [], ◌∷◌, length, get_or}
 use Rattle.std.proofs.Math.Path.{sym}
-use Rattle.std.proofs.Common.{ap, subst, ◌∙◌, arith}
+use Rattle.std.proofs.Common.{subst, ◌∙◌, arith}
 use Rattle.std.proofs.Math.Bool.{true, false}
-use Rattle.std.proofs.Math.Option.{Option, none, some}
-use Prim.Native.Nat.{ℕ, zero, suc, ◌+◌, ◌*◌, ◌-◌, ◌≤◌, ◌<◌}
+use Rattle.std.proofs.Math.Option.{Option, some}
+use Prim.Native.Nat.{ℕ, zero, suc, ◌+◌, ◌-◌, ◌≤◌, ◌<◌}
 use Rattle.std.proofs.Math.ListN.{get_elem?}
 use Rattle.sets.specs.Laws.{set_of_holds}
 use Rattle.meaning.specs.Tests.{ahead}
-use Rattle.meaning.specs.Text.{Input, Regs, State, size, byte_after, unset, fits, fits_all, cleared, wiped}
+use Rattle.meaning.specs.Text.{Input, Regs, State, unset, fits, fits_all, cleared, wiped}
 use Rattle.meaning.specs.Bytes.{text_of, Bytes}
-use Rattle.meaning.specs.Node.{Node, Node.bset, Node.group, Node.many, lo, hi, Proper}
-use Rattle.meaning.specs.Results.{or_else, or_else_none, first_some, later, moved, fresh, turns, forced, results, first_concat_map}
+use Rattle.meaning.specs.Node.{Node, Node.bset, Node.group, lo, hi, Proper}
+use Rattle.meaning.specs.Results.{or_else_none, first_some, later, fresh, turns, forced, results, first_concat_map}
 use Rattle.meaning.specs.Results.{first_stop, first_turns}
 use Rattle.meaning.specs.Standard.{initial, matcher, match_at, exec, search_from}
 use Rattle.meaning.proofs.Agrees.{standard}
 use Rattle.meaning.specs.Numbering.{Numbered, Numbers, apart, numbered}
-use Rattle.machine.specs.Rows.{Row, Row.accept, Program, row_count, row_at, Key, at}
-use Rattle.machine.specs.Steps.{Move, move_of, Thread, Machine, steps, begun, Done, best, enough, first_thread, run}
+use Rattle.machine.specs.Rows.{Row, Row.accept, Program, row_count, row_at, Key}
+use Rattle.machine.specs.Steps.{Move, move_of, Thread, begun, Done, best, enough, first_thread, run}
 use Rattle.machine.specs.Steps.{match_row, search_row}
 use Rattle.machine.specs.Trees.{Tree.won, first}
 use Rattle.machine.specs.Layout.{any_byte, whole, program_of}
-use Rattle.machine.specs.Laid.{Laid, Laid.chain, Stand, program_stands}
+use Rattle.machine.specs.Laid.{Laid.chain, Stand, program_stands}
 use Rattle.machine.proofs.Compile.{Run, Follows, compile}
 use Rattle.machine.proofs.Best.{Trees, firsts, starts, after, ended}
 use Rattle.machine.proofs.Passed.{run_done}

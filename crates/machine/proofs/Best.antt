@@ -1,5 +1,5 @@
 -- Theorem 2: the machine finds the first thread that wins, though it executes no row and flag twice at one position.
-use Rattle.std.specs.Prelude.{◌≡◌, refl, ◌⊎◌, Bool, true, false, cond, ◌||◌, ◌&&◌, List, [], ◌∷◌, ◌++◌, T, eqb}
+use Rattle.std.specs.Prelude.{◌≡◌, refl, ◌⊎◌, Bool, true, false, ◌||◌, List, [], ◌∷◌, ◌++◌, T, eqb}
 use Rattle.std.proofs.Common.{sym, ◌∙◌, inl, inr, arith, eqb→eq}
 use Rattle.std.proofs.Math.Path.{subst⁻¹}
 use Rattle.std.specs.Bool.{beq}
@@ -10,7 +10,7 @@ use Rattle.meaning.specs.Tests.{and_true, beq_eq, by_test}
 use Rattle.meaning.specs.Text.{Regs}
 use Rattle.meaning.specs.Results.{or_else, or_else_none, or_else_assoc}
 use Rattle.machine.specs.Rows.{Key}
-use Rattle.machine.specs.Steps.{Move, Move.win, Move.lose, Move.eat, Move.on, Move.both, Thread, thread, Machine}
+use Rattle.machine.specs.Steps.{Move, Thread, thread, Machine}
 use Rattle.machine.specs.Steps.{Machine.machine}
 use Rattle.machine.specs.Steps.{same_key, among, exec, step, steps, begun, Done, best}
 use Rattle.machine.specs.Trees.{Tree, Tree.won, Tree.lost, Tree.ate, Tree.went, Tree.split, first, rank, rank_unique}

@@ -1,5 +1,5 @@
 -- What code says: each row of the decoded program, and that code which was written from a program says that program.
-use Rattle.std.specs.Prelude.{◌≡◌, refl, Bool, false, ◌||◌, ◌&&◌, eqb, leb, get_or, take, drop}
+use Rattle.std.specs.Prelude.{◌≡◌, refl, Bool, ◌||◌, ◌&&◌, eqb, leb, get_or, take, drop}
 use Rattle.std.proofs.Common.{sym, ap₂, ◌∙◌, arith, get_or-append-add, take_at}
 use Rattle.std.proofs.Math.Path.{ap}
 use Rattle.std.proofs.Math.Bool.{true}
@@ -8,7 +8,7 @@ use Prim.Native.Nat.{ℕ, zero, suc, ◌+◌, ◌*◌, ◌≤◌, ◌<◌}
 use Rattle.std.proofs.Math.ListN.{length, replicate, length-append}
 use Rattle.std.proofs.Math.Seq.{drop-append-add, ext_get_or}
 use borrow.Author.Tests.{le-leb}
-use Rattle.sets.specs.Sets.{Formed, below, between}
+use Rattle.sets.specs.Sets.{below}
 use Rattle.sets.specs.Bits.{below_all}
 use Rattle.meaning.specs.Node.{Node, Proper}
 use Rattle.meaning.specs.Numbering.{Numbers}
@@ -18,7 +18,7 @@ use Rattle.machine.specs.Rows.{Row, Row.accept, Row.consume, Row.jump, Row.fork,
 use Rattle.machine.specs.Rows.{Row.begin, Row.end, Row.assertion}
 use Rattle.machine.specs.Rows.{Program, row_count, row_at}
 use Rattle.machine.specs.Layout.{size_of, program_of}
-use Rattle.machine.specs.Laid.{Stand, program_stands}
+use Rattle.machine.specs.Laid.{program_stands}
 use Rattle.machine.specs.Compiled.{Rules, every_row, compiled_passes}
 use Rattle.machine.specs.Kinds.{header_zeros, listed, used}
 use Rattle.machine.specs.Words.{word_at, row_start, decode_row, row_in, rows_in, decode, words_of, code_of, rows_pass}

@@ -2,7 +2,7 @@
 use Rattle.std.specs.Prelude.{◌≡◌, refl, Bool, cond, List}
 use Rattle.std.proofs.Common.{sym, ap, ◌∙◌, le-leb}
 use Rattle.std.proofs.Math.Option.{Option, none, some}
-use Prim.Native.Nat.{ℕ, suc, ◌+◌, ◌-◌, ◌≤◌}
+use Prim.Native.Nat.{ℕ, suc, ◌+◌, ◌≤◌}
 use Rattle.std.proofs.Math.Nat.{suc-mul}
 use native.Mathlib.Omega.{arith}
 use Rattle.meaning.specs.Node.{Node, Node.empty, Node.bset, Node.assert, Node.group, Node.seq, Node.alt, Node.many}

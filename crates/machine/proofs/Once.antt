@@ -3,17 +3,17 @@ use Rattle.std.specs.Prelude.{◌≡◌, refl, leb, length, get_or, set}
 use Rattle.std.proofs.Common.{sym, ap₂, subst, ◌∙◌, arith, length-set, get_or-set_same, get_or-set_other, leb-true, lt-ltb, ne_eqb, eq-eqb}
 use Rattle.std.proofs.Math.Option.{Option, none, some}
 use mathlib.Core.List.{List, [], ◌∷◌, ◌++◌, map}
-use Prim.Native.Nat.{ℕ, zero, suc, ◌+◌, ◌*◌, ◌-◌, ◌≤◌, ◌<◌}
+use Prim.Native.Nat.{ℕ, zero, suc, ◌+◌, ◌-◌, ◌≤◌, ◌<◌}
 use Rattle.std.proofs.Math.Decide.{dec_lt}
 use Rattle.std.proofs.lemmas.List.{length-map}
 use Rattle.meaning.specs.All.{All, all_imp}
 use Rattle.meaning.specs.Tests.{by_test}
-use Rattle.meaning.specs.Text.{Input, Regs, State, size, registers_of, opened, closed}
+use Rattle.meaning.specs.Text.{Input, Regs, State, registers_of, opened, closed}
 use Rattle.meaning.specs.Bytes.{Bytes, text_of}
 use Rattle.meaning.specs.Node.{Node, Proper}
 use Rattle.meaning.specs.Numbering.{Numbers, numbered}
 use Rattle.meaning.specs.Results.{or_else, first_some, concat_map, results}
-use Rattle.meaning.specs.Standard.{initial, capture, matcher, match_at, exec, search_from}
+use Rattle.meaning.specs.Standard.{initial, capture, match_at, exec, search_from}
 use Rattle.meaning.specs.Reach.{Reach, reach}
 use Rattle.meaning.proofs.Agrees.{standard}
 use Rattle.machine.specs.Steps.{best, run, match_row}
@@ -21,9 +21,7 @@ use Rattle.machine.specs.Layout.{program_of}
 use Rattle.machine.proofs.Answers.{matched}
 use Rattle.machine.specs.Replies.{shown, spans}
 use Rattle.machine.proofs.Width.{spans_length}
-use Rattle.machine.specs.Repetition.{leads_to, beyond, next_start, goes_on, starts_in, starts_from, match_of, repeated, standard_all}
-use Rattle.machine.specs.Repeated.{Rising}
-use Rattle.machine.proofs.Repeated.{next_beyond}
+use Rattle.machine.specs.Repetition.{leads_to, beyond, next_start, goes_on, starts_in, match_of, standard_all}
 use Rattle.machine.specs.Once.{Once}
 
 -- A match found from a start: the whole match starts at or behind it, and ends there or behind that.

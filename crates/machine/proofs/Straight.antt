@@ -17,7 +17,7 @@ use Rattle.meaning.specs.Node.{Node, Node.many}
 use Rattle.meaning.specs.All.{All}
 use Rattle.machine.specs.Rows.{Row, Row.accept, Row.consume, Row.jump, Row.fork, Row.opens, Row.closes, Row.reset}
 use Rattle.machine.specs.Rows.{Row.begin, Row.end, Row.assertion}
-use Rattle.machine.specs.Rows.{Program, row_count, row_at, Key, at}
+use Rattle.machine.specs.Rows.{Program, row_count, row_at, Key}
 use Rattle.machine.specs.Steps.{move_of, same_key, among, Machine, steps, begun, seen, count, first_thread, run, match_row}
 use Rattle.machine.specs.Layout.{fork_of, program_of}
 use Rattle.machine.specs.Laid.{Turn, Laid, Laid.nothing, Laid.one, Laid.test, Laid.inside, Laid.chain, Laid.either}

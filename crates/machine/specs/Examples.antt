@@ -1,6 +1,6 @@
 -- The outline's own examples of rows and counts, computed.
-use Rattle.std.specs.Prelude.{◌≡◌, refl, true, false, List, [], ◌∷◌, ℕ, eqb, length}
-use Rattle.std.proofs.Math.Option.{Option, none, some}
+use Rattle.std.specs.Prelude.{◌≡◌, refl, true, false, [], ◌∷◌, ℕ, eqb, length}
+use Rattle.std.proofs.Math.Option.{none, some}
 use Rattle.sets.specs.Sets.{bit, has, word_of, set_of}
 use Rattle.meaning.specs.Text.{unset, fits, opened, closed, cleared, wiped}
 use Rattle.meaning.specs.Bytes.{text_of}

@@ -1,5 +1,5 @@
 -- The numbers of code: the words of its header row and of its rows, the kinds of rows, the assertions. Definitions only.
-use Rattle.std.specs.Prelude.{Bool, true, false, ◌||◌, [], ◌∷◌, ℕ, ◌+◌, ◌-◌, eqb, get_or}
+use Rattle.std.specs.Prelude.{Bool, true, false, ◌||◌, [], ◌∷◌, ℕ, ◌-◌, eqb, get_or}
 use Rattle.sets.specs.Sets.{between}
 use Rattle.meaning.specs.Limits.{row_words}
 

@@ -1,5 +1,5 @@
 -- That the rows of a pattern stand as they should: the layout as a relation, without arithmetic.
-use Rattle.std.specs.Prelude.{◌≡◌, refl, Bool, true, false, length}
+use Rattle.std.specs.Prelude.{◌≡◌, refl, Bool, true, length}
 use Rattle.std.proofs.Common.{sym, ap, subst, zero-mul, suc-mul, arith, length-append}
 use Rattle.std.proofs.Math.Option.{Option, none, some}
 use mathlib.Core.List.{List, [], ◌∷◌, ◌++◌, append_assoc}

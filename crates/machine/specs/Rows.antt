@@ -1,6 +1,5 @@
 -- Rows: what the machine runs. Definitions only.
-use Rattle.std.specs.Prelude.{◌≡◌, Bool, true, false, List, ℕ, suc, length, get_or}
-use Rattle.std.proofs.Math.Option.{Option, none, some}
+use Rattle.std.specs.Prelude.{Bool, List, ℕ, length, get_or}
 
 -- A row, by the outline's ten kinds: 1 Accept, 2 Consume a byte of a set, 3 Jump to a row, 4 Fork to two, the first choice
 -- first, 5 Open and 6 Close a group, 7 Reset the groups from the lowest to the highest, 8 Begin a turn, 9 End it and go to a

@@ -1,5 +1,5 @@
 -- The tree of all that a thread can do from a position on. It does not depend on registers.
-use Rattle.std.specs.Prelude.{◌≡◌, Bool, ℕ, suc}
+use Rattle.std.specs.Prelude.{◌≡◌, ℕ, suc}
 use Rattle.std.proofs.Math.Path.{refl}
 use Rattle.std.proofs.Math.Option.{Option, none, some, map}
 use Rattle.meaning.specs.Text.{Regs}

@@ -1,14 +1,14 @@
 -- Theorem S: the standard's matcher finds the first success over the order of results.
-use Rattle.std.specs.Prelude.{◌≡◌, refl, Bool, true, false, cond, ◌&&◌, List, eqb}
+use Rattle.std.specs.Prelude.{◌≡◌, refl, Bool, false, cond, List, eqb}
 use Rattle.std.proofs.Math.Path.{sym}
 use Rattle.std.proofs.Common.{ap, ◌∙◌, zero-add, suc-add, arith}
 use Rattle.std.proofs.Math.Option.{Option, none, some, map}
 use Prim.Native.Nat.{ℕ, zero, suc, ◌+◌, ◌-◌, ◌≤◌, ◌<◌}
 use Rattle.std.proofs.Math.Decide.{dec_lt}
 use Rattle.meaning.specs.Tests.{ahead, here, eq_true, eq_false}
-use Rattle.meaning.specs.Text.{Input, State, size, fits, holds_at}
+use Rattle.meaning.specs.Text.{Input, State, size}
 use Rattle.meaning.specs.Node.{Node, Node.empty, Node.bset, Node.assert, Node.group, Node.seq, Node.alt, Node.many}
-use Rattle.meaning.specs.Results.{or_else, or_else_none, first_some, choose, later, moved, leave, fresh, forced, turns}
+use Rattle.meaning.specs.Results.{or_else, or_else_none, first_some, choose, later, leave, fresh, forced, turns}
 use Rattle.meaning.specs.Results.{limit, results}
 use Rattle.meaning.specs.Results.{first_append, first_concat_map, first_cond, first_stop, first_turns}
 use Rattle.meaning.specs.Reach.{Reach, reach, enough, body_reach, first_cong}

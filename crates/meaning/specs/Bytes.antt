@@ -6,7 +6,7 @@ use Rattle.std.proofs.Math.Option.{Option, none, some}
 use Rattle.std.proofs.Common.{arith}
 use Rattle.std.proofs.Math.ListN.{get_elem?}
 use Rattle.sets.specs.Sets.{has, is_word}
-use Rattle.meaning.specs.Text.{Input, byte_before, byte_after, passes, holds_at}
+use Rattle.meaning.specs.Text.{Input, passes, holds_at}
 
 -- Whether there is no byte.
 abbrev pub no_byte : Option ℕ → Bool

@@ -1,6 +1,6 @@
 -- Patterns and texts as quoted text, for examples: each character below 256 is a byte.
 use Rattle.std.specs.Prelude.{List, [], ◌∷◌, ℕ}
-use Prim.Native.Char.{Char, code}
+use Prim.Native.Char.{code}
 use Prim.Native.String.{String, [] as end, ◌∷◌ as ◌then◌}
 
 abbrev pub bytes : String → List ℕ

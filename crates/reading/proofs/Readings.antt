@@ -1,21 +1,18 @@
 -- A whole pattern's reading: the checks that come first, and what the reader of alternatives leaves. Assumes nothing.
 use mathlib.Core.Path.{◌≡◌, refl, sym, ap, ap₂, ◌∙◌}
-use mathlib.Core.Bool.{Bool, true, false, cond}
-use mathlib.Core.List.{List, [], ◌∷◌, ◌++◌}
-use Prim.Native.Nat.{ℕ, zero, suc, ◌+◌, ◌-◌, ◌*◌, ◌≤◌, ◌<◌, ◌^◌}
+use mathlib.Core.Bool.{cond}
+use mathlib.Core.List.{List, ◌++◌}
+use Prim.Native.Nat.{ℕ, ◌-◌, ◌*◌, ◌≤◌, ◌<◌}
 use native.Mathlib.Omega.{arith}
-use lib.Dec.{leb, ltb}
+use lib.Dec.{leb}
 use lib.ListN.{length, take, get_or, replicate}
 use borrow.Author.Tests.{lt-ltb, le-ltb, lt-leb}
 use mir.Syntax.{w8}
 use mir.Val.{Fits}
-use Rattle.meaning.specs.Bytes.{Bytes}
-use Rattle.meaning.specs.Limits.{pattern_limit, table_words, depth_limit, group_limit}
-use Rattle.meaning.specs.Node.{Node}
+use Rattle.meaning.specs.Limits.{pattern_limit, table_words, depth_limit}
 use Rattle.meaning.specs.Refusals as No
-use Rattle.table.specs.Table.{record_words, record_count, records}
-use Rattle.table.specs.Stands.{Stands}
-use Rattle.reading_items.specs.Reading.{Part.part, Part.turned, alternatives_at, Reading, Reading.pattern, Reading.refused, whole}
+use Rattle.table.specs.Table.{record_words, record_count}
+use Rattle.reading_items.specs.Reading.{Part.turned, alternatives_at, Reading, Reading.pattern, Reading.refused, whole}
 use Rattle.reading_items.specs.Reading.{first_high, reading, table_by, table_after}
 use Rattle.reading.specs.Answers.{Reads, Checked, answer_of}
 use Rattle.reading_items.specs.Meets.{Fine}

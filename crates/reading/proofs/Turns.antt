@@ -1,16 +1,14 @@
 -- What a call's answer says of the reading, and the invariant of both loops with what a turn and the way out show of it.
 -- Assumes nothing.
 use mathlib.Core.Path.{◌≡◌, refl, sym, ap, subst, ◌∙◌}
-use mathlib.Core.Bool.{Bool, true, false, true≢false}
-use mathlib.Core.List.{List, [], ◌∷◌, ◌++◌, append_assoc, append-nil}
-use Prim.Native.Nat.{ℕ, zero, suc, ◌+◌, ◌-◌, ◌*◌, ◌≤◌, ◌<◌}
+use mathlib.Core.Bool.{true, false, true≢false}
+use mathlib.Core.List.{List, [], ◌++◌, append_assoc, append-nil}
+use Prim.Native.Nat.{ℕ, zero, suc, ◌+◌, ◌*◌, ◌≤◌, ◌<◌}
 use native.Mathlib.Nat.{not-suc-le-zero}
 use native.Mathlib.Omega.{arith}
-use lib.Dec.{eqb}
 use lib.ListN.{length, take, length-append, length-take}
 use borrow.Author.Tests.{eq-eqb, ne_eqb}
-use Rattle.meaning.specs.Bytes.{Bytes}
-use Rattle.meaning.specs.Limits.{pattern_limit, table_words, depth_limit, group_limit, count_limit}
+use Rattle.meaning.specs.Limits.{pattern_limit, table_words, group_limit}
 use Rattle.meaning.specs.Node.{Node, Proper}
 use Rattle.meaning.specs.Flat.{Kind, Kind.sequence, Kind.alternation, Not, Flat, parts, join}
 use Rattle.meaning.specs.Results.{concat_map}
@@ -20,16 +18,16 @@ use Rattle.table.specs.Laws.{count_all, records_append, long, long_all, parts_pr
 use Rattle.table.specs.Derived.{record_limit}
 use Rattle.table.specs.Stands.{Stands, SomePart, Series}
 use Rattle.table.specs.Roots.{stands_long, fewer, series_few}
-use Rattle.reading_atoms.specs.Chars.{byte_at, no_byte, bar, open_paren, ends_sequence}
+use Rattle.reading_atoms.specs.Chars.{byte_at, bar, ends_sequence}
 use Rattle.reading_atoms.specs.Places.{byte_within}
 use Rattle.reading_items.specs.Parts.{count_parts}
-use Rattle.reading_items.specs.Facts.{Kept, Item, Stretch, Ok, fair_proper}
+use Rattle.reading_items.specs.Facts.{Kept, Item, Stretch, fair_proper}
 use Rattle.reading_items.specs.Kept.{item_at_lem, sequence_at_lem, alternatives_at_lem}
 use Rattle.reading_items.specs.Read.{atom_laws}
-use Rattle.reading_items.specs.Reading.{Part, Part.part, Part.turned, and_then, closed, sequence_go, alternatives_go, item_at}
+use Rattle.reading_items.specs.Reading.{Part, Part.part, Part.turned, sequence_go, alternatives_go, item_at}
 use Rattle.reading_items.specs.Reading.{sequence_at}
 use Rattle.reading_items.specs.Reading.{alternatives_at}
-use Rattle.reading_items.specs.Meets.{Fine, Behind, Room, Meets, MeetsBy, OpensAt, Opens, OpensBy, grouped, Closes}
+use Rattle.reading_items.specs.Meets.{Fine, Meets, MeetsBy, Opens, OpensBy}
 use Rattle.reading_items.specs.Meets.{series_kind}
 use Rattle.reading_items.specs.Meets.{Gathered, SomeGathered, Joins, Splices}
 use Rattle.reading_items.specs.declared.parts.Got.{Got}

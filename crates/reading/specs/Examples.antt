@@ -1,16 +1,14 @@
 -- Worked readings, computed: the outline's lines on patterns, each escape and class corner, and both sides of each limit.
-use Rattle.std.specs.Prelude.{◌≡◌, refl, Bool, true, false, cond, ◌&&◌, List, [], ◌∷◌, ◌++◌, ℕ, zero, suc, ◌+◌, ◌*◌, eqb, length, replicate}
-use Rattle.std.proofs.Math.Option.{Option, none, some}
+use Rattle.std.specs.Prelude.{◌≡◌, refl, Bool, true, ◌&&◌, List, [], ◌∷◌, ℕ, eqb, length, replicate}
 use Prim.Native.String.{String}
-use Rattle.sets.specs.Sets.{set_of, is_digit, is_word, is_space, is_dot, in_escape}
+use Rattle.sets.specs.Sets.{is_digit, is_word, is_space, is_dot}
 use Rattle.meaning.specs.Quoted.{bytes}
 use Rattle.meaning.specs.Flat.{parts}
 use Rattle.meaning.specs.Limits.{table_words}
-use Rattle.meaning.specs.Node.{Node, Node.empty, Node.bset, Node.assert, Node.group, Node.seq, Node.alt, Node.many}
 use Rattle.reading_atoms.specs.Escapes.{escape_at}
 use Rattle.reading_atoms.specs.Classes.{class_atom, class_go, class_at}
 use Rattle.reading_atoms.specs.Braces.{number_go, number_at, braces_at, quantifier_at}
-use Rattle.reading_items.specs.Reading.{Reading, Reading.pattern, Reading.refused, literal_set, opening_at, item_by, item_at}
+use Rattle.reading_items.specs.Reading.{Reading, Reading.pattern, Reading.refused, opening_at, item_by, item_at}
 use Rattle.reading_items.specs.Reading.{sequence_go, alternatives_go, reading}
 
 -- A pattern and what its reading says: a refusal's number and place, or a number of groups.

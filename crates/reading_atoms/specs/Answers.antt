@@ -1,5 +1,5 @@
 -- The outline's values for each case of what the code answers. Definitions only.
-use Rattle.std.specs.Prelude.{◌≡◌, cond, ℕ, ◌+◌, ◌-◌, ◌≤◌, min, eqb}
+use Rattle.std.specs.Prelude.{◌≡◌, cond, ℕ, ◌-◌, ◌≤◌, min, eqb}
 use Rattle.std.proofs.Math.Option.{none, some}
 use Rattle.meaning.specs.Limits.{no_maximum}
 use Rattle.reading_atoms.specs.Escapes as escapes

@@ -15,7 +15,6 @@ use Rattle.reading_items.specs.Reading.{Part, Part.part, quantified, set_item, O
 use Rattle.reading_items.specs.Reading.{sequence_go}
 use Rattle.reading_items.specs.Reading.{alternatives_go, alternatives_by, item_at, alternatives_at}
 use Rattle.reading_grammar.specs.Atoms.{Is}
-use Rattle.reading_grammar.specs.Atoms as grammar
 use Rattle.reading_grammar.specs.EscapesComplete.{escaped_at, byte_complete, set_complete}
 use Rattle.reading_grammar.specs.ClassesComplete.{class_complete}
 use Rattle.reading_grammar.specs.Within.{set_first}

@@ -7,7 +7,6 @@ use Rattle.meaning.specs.Node.{Node}
 use Rattle.meaning.specs.Flat.{Kind, join}
 use Rattle.reading_atoms.specs.Chars.{no_byte, byte_at, bar, ends_sequence}
 use Rattle.reading_items.specs.Reading.{Part.part, alternatives_at, Reading.pattern, Reading.refused, reading}
-use Rattle.reading_grammar.specs.Atoms as grammar
 use Rattle.reading_grammar.proofs.AllReads.{all_read}
 use Rattle.reading_grammar.specs.Checked.{Checking, checked, passed_none}
 use Rattle.reading_grammar.specs.Grammar.{Derives}

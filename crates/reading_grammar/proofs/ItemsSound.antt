@@ -31,7 +31,7 @@ use Rattle.reading_grammar.specs.WrongEscapes.{wrong_escape}
 use Rattle.reading_grammar.specs.Openings.{OpeningMeans, opening_sound}
 use Rattle.reading_grammar.specs.Within.{due_within, due_deep, at_end}
 use Rattle.reading_grammar.specs.Forwards.{item_on, sequence_on}
-use Rattle.reading_grammar.specs.Refusals.{Due, Due.start, Due.behind, Due.bars, Due.grouped, Due.plain, Inside, Refuses}
+use Rattle.reading_grammar.specs.Refusals.{Due, Due.plain, Inside, Refuses}
 use Rattle.reading_grammar.specs.Grammar.{special, Assertion, SetAtom, Sort, Rule}
 
 module _ (s : List ℕ) (low : (i : ℕ) → i < length s → get_or s i 0 ≤ 0x7F) where

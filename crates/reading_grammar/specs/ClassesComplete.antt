@@ -3,11 +3,11 @@ use Rattle.std.proofs.Math.Path.{◌≡◌, sym}
 use Rattle.std.specs.Prelude.{refl, Bool, List, length}
 use Rattle.std.proofs.Common.{◌∙◌, arith}
 use Rattle.std.proofs.Math.Bool.{true, false}
-use Prim.Native.Nat.{ℕ, zero, suc, ◌+◌, ◌-◌, ◌≤◌, ◌<◌}
+use Prim.Native.Nat.{ℕ, zero, suc, ◌+◌, ◌≤◌, ◌<◌}
 use borrow.Author.Tests.{eq-eqb, ne_eqb, le-leb}
 use Rattle.sets.specs.Sets.{set_of, between, in_escape}
 use Rattle.reading_atoms.specs.Chars.{no_byte, byte_at, caret, backslash, close_bracket}
-use Rattle.reading_atoms.specs.Classes.{ClassAtom.one, ClassAtom.several, class_atom, Class, Class.holds, added, takes}
+use Rattle.reading_atoms.specs.Classes.{ClassAtom.one, ClassAtom.several, class_atom, Class.holds, added, takes}
 use Rattle.reading_atoms.specs.Classes.{begins_range}
 use Rattle.reading_atoms.specs.Classes.{class_item, class_set, class_go, class_at}
 use Rattle.reading_grammar.specs.Atoms.{Is, EscapedSet, ByteAtom, ByteAtom.plain, ByteAtom.escaped, Dash, ClassItems}

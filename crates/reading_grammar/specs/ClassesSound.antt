@@ -6,7 +6,7 @@ use Rattle.std.proofs.Math.Bool.{true}
 use Rattle.std.proofs.lemmas.Bool.{false≢true}
 use Rattle.std.proofs.Math.Option.{none}
 use mathlib.Core.List.{List}
-use Prim.Native.Nat.{ℕ, zero, suc, ◌+◌, ◌-◌, ◌≤◌, ◌<◌}
+use Prim.Native.Nat.{ℕ, zero, suc, ◌+◌, ◌≤◌, ◌<◌}
 use borrow.Author.Tests.{eqb-true, eqb-false, leb-true, leb-false, not-true, eq-eqb, ne_eqb}
 use Rattle.sets.specs.Sets.{set_of, in_escape}
 use Rattle.meaning.specs.Tests.{and_true, by_test}

@@ -1,5 +1,5 @@
 -- What derives as an escape is read so.
-use Rattle.std.specs.Prelude.{◌≡◌, refl, Bool, false, cond, ◌||◌, List, ℕ, ◌+◌, ◌-◌, ◌<◌, eqb}
+use Rattle.std.specs.Prelude.{◌≡◌, refl, Bool, false, cond, ◌||◌, List, ℕ, ◌+◌, ◌<◌, eqb}
 use Rattle.std.proofs.Common.{◌∙◌, arith, ne_eqb}
 use Rattle.sets.specs.Sets.{between, is_digit, is_word}
 use Rattle.reading_atoms.specs.Chars.{no_byte, backslash, is_letter}

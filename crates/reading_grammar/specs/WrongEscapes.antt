@@ -1,7 +1,7 @@
 -- What is refused as an escape is neither listed nor one of 5, or is one of 5.
 use Rattle.std.proofs.Math.Path.{◌≡◌, refl, sym}
 use Rattle.std.proofs.Common.{ap, subst, ◌∙◌, inl, inr, ne_eqb, leb-true}
-use Rattle.std.specs.Prelude.{◌⊎◌, Bool, true, false, List, eqb, leb}
+use Rattle.std.specs.Prelude.{◌⊎◌, Bool, true, false, List, leb}
 use Rattle.std.proofs.Math.Bool.{or-true}
 use Prim.Native.Nat.{ℕ, ◌+◌, ◌≤◌}
 use native.Mathlib.Omega.{arith}

@@ -1,13 +1,11 @@
 -- The first byte above 7F, and a table that is cleared from an index on. Assumes nothing.
 use mathlib.Core.Path.{◌≡◌, refl, sym, ap, ◌∙◌}
-use mathlib.Core.Bool.{Bool, true, false, cond}
 use mathlib.Core.List.{List, [], ◌∷◌, ◌++◌, append_assoc, append-nil}
-use Prim.Native.Nat.{ℕ, zero, suc, ◌+◌, ◌-◌, ◌≤◌, ◌<◌}
+use Prim.Native.Nat.{ℕ, ◌+◌, ◌-◌, ◌≤◌, ◌<◌}
 use native.Mathlib.Numerals.{add-one}
 use native.Mathlib.Omega.{arith}
-use lib.Dec.{ltb}
 use lib.ListN.{length, get_or, take, drop, set, replicate, length-set, replicate-append-replicate}
-use lib.Seq.{drop-cons, drop-length, take-suc-set, take_all, take-set-le, drop-set-lt}
+use lib.Seq.{drop-cons, drop-length, take-suc-set, take_all}
 use borrow.Author.Tests.{lt-ltb, le-ltb}
 use Rattle.reading_items.specs.Reading.{high_go}
 

@@ -3,27 +3,24 @@ use mathlib.Core.Path.{◌≡◌, refl, sym, ap, ◌∙◌}
 use mathlib.Core.List.{List, [], ◌∷◌, ◌++◌, append-nil}
 use Prim.Native.Nat.{ℕ, zero, suc, ◌+◌, ◌-◌, ◌*◌, ◌≤◌, ◌<◌}
 use native.Mathlib.Omega.{arith}
-use lib.ListN.{length, take, get_or, replicate}
+use lib.ListN.{length}
 use borrow.Author.Tests.{eq-eqb, ne_eqb}
 use Rattle.meaning.specs.Node.{Node, Node.empty, Node.bset, Node.assert, Node.group, Node.seq, Node.alt, Node.many, Proper}
 use Rattle.meaning.specs.Refusals as No
 use Rattle.meaning.specs.Flat.{Kind, Kind.sequence, Kind.alternation, Not, parts, link, join, parts_alone}
 use Rattle.meaning.specs.Results.{concat_map}
 use Rattle.table.specs.Table.{kind_word, items_word, empty_kind, sequence_kind, alternation_kind, no_set, record_words, word_of}
-use Rattle.table.specs.Table.{record_count, records}
-use Rattle.meaning.specs.All.{All}
+use Rattle.table.specs.Table.{records}
 use Rattle.table.specs.Laws.{inner, inner_link, proper_link, kind_of, of_kind, Kinded, Kinded.items, Kinded.choices}
 use Rattle.table.specs.Stands.{Stands, SomePart, Series, Made, Putting, Puts}
 use Rattle.table.specs.Roots.{some_records, few_records_lem, root_kind, root_items, inside}
 use Rattle.reading_atoms.specs.Chars.{byte_at, close_paren}
 use Rattle.reading_atoms.specs.Places.{byte_within}
-use Rattle.reading_items.specs.Reading.{closed}
-use Rattle.reading_items.specs.Meets.{Behind, Room, Meets, Quantifies, grouped, Groups, Closes, series_kind}
+use Rattle.reading_items.specs.Meets.{Behind, Quantifies, grouped, Groups, Closes, series_kind}
 use Rattle.reading_items.specs.Meets.{Gathered}
 use Rattle.reading_items.specs.Meets.{SomeGathered, Joins, Splices}
 use Rattle.reading_items.specs.declared.parts.Got.{Got}
 use Rattle.reading_items.specs.declared.parts.Got.TheVariants.{Refused as GotRefused}
-use Rattle.reading_items.specs.declared.series.Spliced.{Spliced}
 use Rattle.reading_items.proofs.Putting.{made, putting}
 
 -- A pattern of the kind of a series holds the series's parts, and any other is not of that kind.

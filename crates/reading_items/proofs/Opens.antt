@@ -5,14 +5,14 @@ use mathlib.Core.List.{List}
 use Prim.Native.Nat.{ℕ, zero, suc, ◌+◌, ◌-◌, ◌≤◌, ◌<◌}
 use native.Mathlib.Numerals.{add-one}
 use native.Mathlib.Omega.{arith}
-use lib.Dec.{eqb, leb}
+use lib.Dec.{eqb}
 use lib.ListN.{length}
 use borrow.Author.Tests.{eq-eqb, ne_eqb, eqb-true, lt-leb, le-leb}
 use Rattle.meaning.specs.Limits.{depth_limit, group_limit}
 use Rattle.meaning.specs.Node.{Node, Node.group}
-use Rattle.reading_atoms.specs.Chars.{byte_at, no_byte, open_paren, question, colon}
+use Rattle.reading_atoms.specs.Chars.{byte_at, question, colon}
 use Rattle.reading_atoms.specs.Places.{byte_within}
-use Rattle.reading_items.specs.Reading.{Part, Part.part, Part.turned, Opening, Opening.capturing, Opening.plain}
+use Rattle.reading_items.specs.Reading.{Part, Part.part, Part.turned, Opening.capturing, Opening.plain}
 use Rattle.reading_items.specs.Reading.{Opening.neither}
 use Rattle.reading_items.specs.Reading.{is_look, opening_at}
 use Rattle.reading_items.specs.Reading.{and_then, too_deep, opened, closed, item_by, item_at, alternatives_at}

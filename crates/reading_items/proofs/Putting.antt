@@ -3,22 +3,18 @@ use mathlib.Core.Path.{◌≡◌, refl, sym, ap, ◌∙◌}
 use mathlib.Core.Bool.{Bool, true, false, cond}
 use mathlib.Core.Option.{Option, none, some}
 use mathlib.Core.List.{List, [], ◌∷◌, ◌++◌, append-nil}
-use Prim.Native.Nat.{ℕ, zero, suc, ◌+◌, ◌-◌, ◌*◌, ◌≤◌, ◌<◌}
+use Prim.Native.Nat.{ℕ, zero, suc, ◌+◌, ◌-◌, ◌*◌, ◌≤◌}
 use native.Mathlib.Omega.{arith}
 use lib.Dec.{eqb}
 use mir.Val.{bool_byte}
 use lib.ListN.{length, take, get_or, replicate}
-use borrow.Author.Tests.{eqb-true, eqb-false, eq-eqb, ne_eqb}
+use borrow.Author.Tests.{eqb-true}
 use Rattle.sets.specs.Sets.{Formed}
-use Rattle.meaning.specs.Limits.{pattern_limit, table_words, last_assertion, no_maximum}
-use Rattle.meaning.specs.Node.{Node, Node.empty, Node.bset, Node.assert, Node.group, Node.many, Within, Proper}
-use Rattle.meaning.specs.Flat.{Kind, Kind.sequence, Kind.alternation, Not, parts, link, join}
-use Rattle.meaning.specs.Results.{concat_map}
-use Rattle.table.specs.Table.{assertion_kind, set_kind, group_kind, quantifier_kind, no_set, record_words, maximum, bit_of, record_count}
+use Rattle.meaning.specs.Limits.{last_assertion, no_maximum}
+use Rattle.meaning.specs.Node.{Node, Node.bset, Node.assert, Node.group, Node.many, Within, Proper}
+use Rattle.table.specs.Table.{assertion_kind, set_kind, group_kind, quantifier_kind, no_set, record_words, maximum, bit_of}
 use Rattle.table.specs.Table.{records}
-use Rattle.meaning.specs.All.{All}
-use Rattle.table.specs.Laws.{inner, inner_link, kind_of, operand_of, last_of}
-use Rattle.table.specs.Derived.{record_limit}
+use Rattle.table.specs.Laws.{inner, kind_of, operand_of, last_of}
 use Rattle.table.specs.Stands.{Stands, Ends, SomePart, Series, Made, Putting, Puts}
 use Rattle.reading_atoms.specs.Answers.{QuantifierIs, quantifier_of}
 use Rattle.reading_atoms.specs.Braces as braces
@@ -26,12 +22,9 @@ use Rattle.reading_atoms.specs.Braces.{quantifier_at}
 use Rattle.reading_atoms.specs.Laws.{quantifier_repeated}
 use Rattle.reading_atoms.specs.declared.braces.Quantifier.{Quantifier}
 use Rattle.reading_atoms.specs.declared.braces.Quantifier.TheVariants.{Once, Repeated, Refused as Miscounted}
-use Rattle.reading_items.specs.Reading.{Part, Part.part, Part.turned, quantified, set_item, closed}
+use Rattle.reading_items.specs.Reading.{Part.part}
 use Rattle.reading_items.specs.Numbers.{miscounted_late}
-use Rattle.reading_items.specs.Meets.{Fine, Behind, Room, Meets, Quantifies, grouped, Groups, Closes}
-use Rattle.reading_items.specs.Meets.{Gathered}
-use Rattle.reading_items.specs.Meets.{SomeGathered, Joins, Splices}
-use Rattle.reading_items.specs.declared.parts.Got.{Got}
+use Rattle.reading_items.specs.Meets.{Behind, Room, Meets, Quantifies, grouped, Groups}
 use Rattle.reading_items.specs.declared.parts.Got.TheVariants.{Part as GotPart, Refused as GotRefused}
 
 -- A record that closes the parts of a pattern is that pattern's own.

@@ -1,34 +1,26 @@
 -- Items that hold no other part, by their first byte. Assumes nothing.
-use mathlib.Core.Path.{◌≡◌, refl, sym, ap, ◌∙◌}
-use mathlib.Core.Bool.{Bool, true, false, cond, ◌||◌, true≢false}
+use mathlib.Core.Path.{◌≡◌, refl, sym, ◌∙◌}
+use mathlib.Core.Bool.{Bool, true, false, ◌||◌, true≢false}
 use mathlib.Core.List.{List}
-use Prim.Native.Nat.{ℕ, zero, suc, ◌+◌, ◌-◌, ◌*◌, ◌≤◌, ◌<◌}
+use Prim.Native.Nat.{ℕ, zero, suc, ◌+◌, ◌≤◌, ◌<◌}
 use native.Mathlib.Omega.{arith}
 use lib.Dec.{eqb}
-use lib.ListN.{length, take, get_or}
-use borrow.Author.Tests.{eq-eqb, ne_eqb, eqb-true}
-use Rattle.sets.specs.Sets.{Formed, set_of, is_dot}
-use Rattle.sets.specs.Laws.{set_of_holds}
-use Rattle.meaning.specs.Limits.{pattern_limit, table_words, group_limit}
-use Rattle.meaning.specs.Node.{Node.bset, Node.assert}
-use Rattle.table.specs.Table.{record_words}
-use Rattle.table.specs.Stands.{Stands, SomePart}
-use Rattle.reading_atoms.specs.Chars.{byte_at, no_byte, open_paren, close_paren, open_bracket, close_bracket, open_brace, close_brace}
-use Rattle.reading_atoms.specs.Chars.{backslash, dot, caret, dollar, star, plus, question, bar, ends_sequence, is_quantifier}
-use Rattle.reading_atoms.specs.Places.{byte_there, byte_within}
-use Rattle.reading_atoms.specs.Classes.{Class.holds, Class.broken, takes, class_at}
-use Rattle.reading_atoms.specs.Escapes.{Escape.byte, Escape.named, Escape.assertion, Escape.wrong, escape_at}
-use Rattle.reading_atoms.specs.Answers.{class_of, escape_of}
-use Rattle.reading_atoms.specs.Laws.{class_holds, escape_byte, escape_named, escape_assertion}
+use lib.ListN.{length, get_or}
+use borrow.Author.Tests.{ne_eqb, eqb-true}
+use Rattle.meaning.specs.Node.{Node.assert}
+use Rattle.reading_atoms.specs.Chars.{byte_at, open_paren, open_bracket, close_bracket, open_brace, close_brace}
+use Rattle.reading_atoms.specs.Chars.{backslash, dot, caret, dollar, star, plus, question, is_quantifier}
+use Rattle.reading_atoms.specs.Places.{byte_there}
+use Rattle.reading_atoms.specs.Classes.{Class.holds, Class.broken, class_at}
+use Rattle.reading_atoms.specs.Escapes.{escape_at}
+use Rattle.reading_atoms.specs.Answers.{class_of}
 use Rattle.reading_atoms.specs.declared.classes.Class.{Class}
-use Rattle.reading_atoms.specs.declared.escapes.Escape.{Escape}
 use Rattle.reading_items.specs.Reading.{Part, Part.part, Part.turned, Opening, set_item, class_part, escape_item, literal_set}
 use Rattle.reading_items.specs.Reading.{dot_set}
 use Rattle.reading_items.specs.Reading.{item_by, item_at}
-use Rattle.reading_items.specs.Numbers.{wrong_late, broken_late}
-use Rattle.reading_items.specs.Meets.{Fine, Behind, Room, Meets, MeetsBy, Quantifies}
+use Rattle.reading_items.specs.Meets.{Fine, Behind, Room, Meets}
 use Rattle.reading_items.specs.declared.parts.Got.{Got}
-use Rattle.reading_items.specs.declared.parts.Got.TheVariants.{Part as GotPart, Refused as GotRefused}
+use Rattle.reading_items.specs.declared.parts.Got.TheVariants.{Refused as GotRefused}
 
 -- A reading that is known.
 pub meet : {x : Part} {answer : Got} {before table' : List ℕ} (y : Part) → x ≡ y → Meets y answer before table'

@@ -1,34 +1,19 @@
 -- What is read is flat, its groups are numbered by their opening parenthesis, its counts and depths are within the limits, and
 -- it has at most two records for each byte and one more.
-use Rattle.std.specs.Prelude.{◌≡◌, refl, ◌⊎◌, Bool, true, false, cond, ◌||◌, ◌&&◌, List, [], ◌∷◌, ◌++◌, ℕ, zero, suc, ◌+◌, ◌*◌, ◌-◌, ◌≤◌, ◌<◌, eqb, leb, ltb, length}
-use Rattle.std.proofs.Common.{sym, ap, subst, ◌∙◌, inl, inr, arith}
-use Rattle.std.proofs.Math.Option.{Option, none, some}
+use Rattle.std.specs.Prelude.{◌≡◌, refl, Bool, true, false, List, ℕ, zero, suc, ◌+◌, ◌*◌, ◌≤◌, ◌<◌, ltb, length}
+use Rattle.std.proofs.Common.{sym, ◌∙◌}
 use Rattle.std.proofs.Math.ListN.{get_or-eq_default}
 use borrow.Author.Tests.{eqb-true, eqb-false, leb-false, ltb-false, eq-eqb}
-use Rattle.sets.specs.Sets.{Formed, set_of, is_dot, in_escape}
-use Rattle.sets.specs.Laws.{set_of_holds}
-use Rattle.meaning.specs.Tests.{by_test}
-use Rattle.meaning.specs.Limits.{depth_limit, group_limit, pattern_limit, last_assertion}
+use Rattle.sets.specs.Sets.{Formed}
+use Rattle.meaning.specs.Limits.{group_limit, last_assertion}
 use Rattle.meaning.specs.Node.{Node, Node.empty, Node.bset, Node.assert, Node.group, Node.seq, Node.alt, Node.many, Within}
 use Rattle.meaning.specs.Node.{Proper}
-use Rattle.meaning.specs.Flat.{Kind, Kind.sequence, Kind.alternation, pair, Flat, parts, join, join_parts}
+use Rattle.meaning.specs.Flat.{Kind, Kind.sequence, Kind.alternation, pair, Flat}
 use Rattle.meaning.specs.Numbering.{Numbers}
-use Rattle.table.specs.Table.{records_in, record_count}
-use Rattle.meaning.specs.All.{All, all_append}
-use Rattle.table.specs.Laws.{count_all, count_append}
-use Rattle.reading_atoms.specs.Chars.{no_byte, byte_at, choose, open_paren, open_bracket, backslash, ends_sequence, bar, close_paren}
-use Rattle.reading_atoms.specs.Escapes.{Escape, Escape.byte, Escape.named, Escape.assertion, Escape.wrong, escape_at}
-use Rattle.reading_atoms.specs.Classes.{Class, Class.holds, Class.broken, takes, class_at}
-use Rattle.reading_atoms.specs.Braces.{Quantifier, Quantifier.once, Quantifier.repeated, Quantifier.miscounted, quantifier_at}
-use Rattle.reading_items.specs.Parts.{NumbersIn, numbers_append, numbers_join, numbers_parts, Shared, shared_join}
-use Rattle.reading_items.specs.Parts.{shared_parts}
-use Rattle.reading_items.specs.Parts.{Fits, flat_join, flat_parts, count_join, count_parts}
-use Rattle.reading_items.specs.Reading.{Part, Part.part, Part.turned, and_then, quantified, set_item, escape_item, class_part}
-use Rattle.reading_items.specs.Reading.{literal_set, dot_set}
-use Rattle.reading_items.specs.Reading.{Opening, Opening.capturing, Opening.plain, Opening.neither, opening_at, too_deep}
-use Rattle.reading_items.specs.Reading.{closed}
-use Rattle.reading_items.specs.Reading.{opened}
-use Rattle.reading_items.specs.Reading.{item_by, sequence_go, alternatives_go, alternatives_by, item_at, alternatives_at}
+use Rattle.table.specs.Table.{record_count}
+use Rattle.reading_atoms.specs.Chars.{no_byte, byte_at, choose}
+use Rattle.reading_items.specs.Parts.{Shared}
+use Rattle.reading_items.specs.Reading.{Part, Part.part, Part.turned, and_then}
 
 -- A proper pattern whose groups nest no deeper than d.
 abbrev pub Fair : Node → ℕ → Type 0

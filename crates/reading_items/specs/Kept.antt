@@ -1,19 +1,19 @@
 -- The proof of the facts about reading, by the readers' own recursion.
 use Rattle.std.proofs.Math.Path.{◌≡◌, refl}
 use Rattle.std.proofs.Common.{sym, ap, subst, subst₂, ◌∙◌, inl, inr}
-use Rattle.std.specs.Prelude.{◌⊎◌, ◌||◌, ◌&&◌, leb}
+use Rattle.std.specs.Prelude.{◌⊎◌, ◌||◌, leb}
 use Rattle.std.proofs.Math.Bool.{Bool, true, false, cond, false≢true}
-use Rattle.std.proofs.Math.Option.{Option, none, some}
-use mathlib.Core.List.{List, [], ◌∷◌, ◌++◌}
-use Prim.Native.Nat.{ℕ, zero, suc, ◌+◌, ◌*◌, ◌-◌, ◌≤◌, ◌<◌}
+use Rattle.std.proofs.Math.Option.{Option}
+use mathlib.Core.List.{List, [], ◌++◌}
+use Prim.Native.Nat.{ℕ, zero, suc, ◌+◌, ◌*◌, ◌≤◌, ◌<◌}
 use native.Mathlib.Omega.{arith}
 use Rattle.std.proofs.Math.Dec.{eqb, ltb}
 use Rattle.std.proofs.Math.ListN.{length}
-use borrow.Author.Tests.{eqb-true, leb-false, ltb-false}
+use borrow.Author.Tests.{eqb-true, leb-false}
 use Rattle.sets.specs.Sets.{Formed, set_of, is_dot, in_escape}
 use Rattle.sets.specs.Laws.{set_of_holds}
-use Rattle.meaning.specs.Limits.{count_limit, depth_limit, group_limit, pattern_limit, table_words}
-use Rattle.meaning.specs.Node.{Node, Node.empty, Node.bset, Node.assert, Node.group, Node.seq, Node.alt, Node.many, Proper}
+use Rattle.meaning.specs.Limits.{depth_limit, group_limit, pattern_limit, table_words}
+use Rattle.meaning.specs.Node.{Node, Node.bset, Node.assert, Node.group}
 use Rattle.meaning.specs.Node.{Within}
 use Rattle.meaning.specs.Flat.{Kind, Kind.sequence, Kind.alternation, Flat, parts, join, join_parts}
 use Rattle.meaning.specs.Numbering.{Numbers}
@@ -21,7 +21,7 @@ use Rattle.table.specs.Table.{records_in, record_count}
 use Rattle.meaning.specs.All.{All, all_append}
 use Rattle.meaning.specs.Refusals as No
 use Rattle.table.specs.Laws.{count_all, count_append}
-use Rattle.reading_atoms.specs.Chars.{no_byte, byte_at, choose, caret, dollar, dot, backslash, open_paren, close_paren, open_bracket}
+use Rattle.reading_atoms.specs.Chars.{byte_at, choose, caret, dollar, dot, backslash, open_paren, close_paren, open_bracket}
 use Rattle.reading_atoms.specs.Chars.{close_bracket, close_brace}
 use Rattle.reading_atoms.specs.Chars.{bar, question, colon, is_quantifier, ends_sequence}
 use Rattle.reading_atoms.specs.Escapes.{Escape, Escape.byte, Escape.named, Escape.assertion, Escape.wrong, escape_at}
@@ -29,7 +29,7 @@ use Rattle.reading_atoms.specs.Classes.{Class, Class.holds, Class.broken, takes,
 use Rattle.reading_atoms.specs.Braces.{Quantifier, Quantifier.once, Quantifier.repeated, Quantifier.miscounted, quantifier_at}
 use Rattle.reading_items.specs.Parts.{NumbersIn, numbers_append, numbers_join, numbers_parts, shared_join, shared_parts}
 use Rattle.reading_items.specs.Parts.{Fits, flat_join, flat_parts, count_join, count_parts}
-use Rattle.reading_items.specs.Reading.{Part, Part.part, Part.turned, and_then, quantified, set_item, escape_item, class_part}
+use Rattle.reading_items.specs.Reading.{Part, Part.part, Part.turned, quantified, set_item, escape_item, class_part}
 use Rattle.reading_items.specs.Reading.{literal_set, dot_set}
 use Rattle.reading_items.specs.Reading.{Opening, Opening.capturing, Opening.plain, Opening.neither, is_look, opening_at}
 use Rattle.reading_items.specs.Reading.{too_deep}

@@ -1,16 +1,16 @@
 -- What the readers ask and what they answer. Each is a record, so that a proof names no argument of it.
-use Rattle.std.specs.Prelude.{◌≡◌, Bool, true, false, List, [], ◌∷◌, ◌++◌, ℕ, zero, suc, ◌+◌, ◌-◌, ◌*◌, ◌≤◌, ◌<◌, length, take}
+use Rattle.std.specs.Prelude.{◌≡◌, List, ◌++◌, ℕ, zero, suc, ◌+◌, ◌-◌, ◌*◌, ◌≤◌, ◌<◌, length, take}
 use Rattle.meaning.specs.Bytes.{Bytes}
 use Rattle.meaning.specs.Refusals as No
 use Rattle.meaning.specs.Limits.{pattern_limit, table_words, depth_limit, group_limit}
-use Rattle.meaning.specs.Node.{Node, Node.group, Proper}
+use Rattle.meaning.specs.Node.{Node, Node.group}
 use Rattle.meaning.specs.Flat.{Kind, Kind.sequence, Kind.alternation, Not, parts, join}
 use Rattle.meaning.specs.Results.{concat_map}
-use Rattle.table.specs.Table.{record_words, sequence_kind, alternation_kind, record_count, records}
+use Rattle.table.specs.Table.{record_words, sequence_kind, alternation_kind, records}
 use Rattle.meaning.specs.All.{All}
 use Rattle.table.specs.Derived.{record_limit}
 use Rattle.table.specs.Stands.{Stands, Ends, Series}
-use Rattle.reading_atoms.specs.Chars.{byte_at, open_paren, ends_sequence}
+use Rattle.reading_atoms.specs.Chars.{byte_at, open_paren}
 use Rattle.reading_atoms.specs.Braces.{quantifier_at}
 use Rattle.reading_items.specs.Reading.{Part, Part.part, Part.turned, and_then, quantified, closed, item_at, alternatives_at}
 use Rattle.reading_items.specs.declared.parts.Got.{Got}

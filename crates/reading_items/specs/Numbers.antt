@@ -1,6 +1,6 @@
 -- The numbers that the readers of atoms refuse by: none is one of the checks that come first.
 use Rattle.std.specs.Prelude.{◌≡◌, refl, Bool, true, false, cond, ◌||◌, ◌&&◌, List, ℕ, zero, suc, ◌+◌, ◌<◌, eqb, leb, ltb, length}
-use Rattle.std.proofs.Common.{sym, ap, ◌∙◌, arith}
+use Rattle.std.proofs.Common.{arith}
 use Rattle.std.proofs.Math.Option.{none, some}
 use Rattle.sets.specs.Sets.{set_of, is_digit, is_word}
 use Rattle.meaning.specs.Limits.{count_limit}
@@ -8,7 +8,7 @@ use Rattle.reading_atoms.specs.Chars.{byte_at, no_byte, choose, caret, backslash
 use Rattle.reading_atoms.specs.Chars.{close_brace, comma, is_letter, is_hex}
 use Rattle.reading_atoms.specs.Places.{by_cond}
 use Rattle.reading_atoms.specs.Escapes.{Escape, Escape.byte, Escape.named, Escape.assertion, Escape.wrong, control, set_number}
-use Rattle.reading_atoms.specs.Escapes.{letter_escape, hex_escape, zero_escape, other_escape, escape_at}
+use Rattle.reading_atoms.specs.Escapes.{other_escape, escape_at}
 use Rattle.reading_atoms.specs.Classes.{Class, Class.holds, Class.broken, ClassAtom, ClassAtom.one, ClassAtom.several}
 use Rattle.reading_atoms.specs.Classes.{ClassAtom.bad}
 use Rattle.reading_atoms.specs.Classes.{escaped, class_atom, ranged, begins_range, class_item, class_go, class_at}

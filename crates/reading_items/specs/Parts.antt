@@ -1,12 +1,12 @@
 -- Lists of parts: what a list of parts keeps when it is joined, and what the parts of a pattern keep of it.
-use Rattle.std.specs.Prelude.{◌≡◌, refl, List, [], ◌∷◌, ◌++◌, ℕ, zero, suc, ◌+◌, ◌≤◌}
+use Rattle.std.specs.Prelude.{◌≡◌, refl, List, [], ◌∷◌, ◌++◌, ℕ, ◌+◌, ◌≤◌}
 use Rattle.std.proofs.Common.{subst, arith}
-use Rattle.std.proofs.Math.Option.{Option, none, some}
+use Rattle.std.proofs.Math.Option.{some}
 use Rattle.meaning.specs.Node.{Node, Node.empty, Node.bset, Node.assert, Node.group, Node.seq, Node.alt, Node.many}
 use Rattle.meaning.specs.Flat.{Kind, Kind.sequence, Kind.alternation, pair, Not, Flat, parts, link, join, by_parts}
 use Rattle.meaning.specs.Numbering.{Numbers}
-use Rattle.table.specs.Table.{unless, records_in, record_count}
-use Rattle.meaning.specs.All.{All, all_append}
+use Rattle.table.specs.Table.{records_in, record_count}
+use Rattle.meaning.specs.All.{All}
 use Rattle.table.specs.Laws.{count_all, row_count}
 
 -- The groups of a list of parts are numbered from left to right, from a up to b.

@@ -1,14 +1,13 @@
 -- How a pattern is read: the outline's "What a pattern may hold" and "When a pattern is turned away". Definitions only.
 -- It goes left to right, so the smallest place wins. d is how many parentheses may still be opened, g how many groups were.
-use Rattle.std.specs.Prelude.{Bool, true, false, cond, not, ◌||◌, ◌&&◌, List, [], ◌∷◌, ◌++◌, ℕ, zero, suc, ◌+◌, ◌-◌, ◌*◌, eqb, leb, ltb, length, replicate}
-use Rattle.std.proofs.Math.Option.{Option, none, some}
+use Rattle.std.specs.Prelude.{Bool, false, cond, ◌||◌, List, [], ◌∷◌, ◌++◌, ℕ, zero, suc, ◌+◌, ◌-◌, ◌*◌, eqb, leb, ltb, length, replicate}
 use Rattle.sets.specs.Sets.{set_of, is_dot, in_escape}
 use Rattle.meaning.specs.Refusals as No
 use Rattle.meaning.specs.Limits.{pattern_limit, table_words, depth_limit, group_limit}
-use Rattle.meaning.specs.Node.{Node, Node.empty, Node.bset, Node.assert, Node.group, Node.many}
+use Rattle.meaning.specs.Node.{Node, Node.bset, Node.assert, Node.group, Node.many}
 use Rattle.meaning.specs.Flat.{Kind.sequence, Kind.alternation, parts, join}
 use Rattle.table.specs.Table.{record_words, record_count, records}
-use Rattle.reading_atoms.specs.Chars.{no_byte, byte_at, choose, caret, dollar, backslash, dot, question, open_paren, close_paren}
+use Rattle.reading_atoms.specs.Chars.{byte_at, choose, caret, dollar, backslash, dot, question, open_paren, close_paren}
 use Rattle.reading_atoms.specs.Chars.{open_bracket, close_bracket, close_brace, bar, colon, is_quantifier, ends_sequence}
 use Rattle.reading_atoms.specs.Escapes.{Escape, Escape.byte, Escape.named, Escape.assertion, Escape.wrong, escape_at}
 use Rattle.reading_atoms.specs.Classes.{Class, Class.holds, Class.broken, takes, class_at}

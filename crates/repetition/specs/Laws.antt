@@ -1,7 +1,7 @@
 -- The course of a repetition: what is found so far, and what is still to come.
-use Rattle.std.specs.Prelude.{◌≡◌, refl, Bool, true, false, not, cond, List, [], ◌∷◌, ◌++◌, map, ℕ, zero, suc, ◌+◌, ◌*◌, ◌-◌, ◌^◌, ◌≤◌, ◌<◌, eqb, ltb, ℤ, length, get_or, take, drop}
-use Rattle.std.proofs.Common.{sym, ap, ap₂, subst, ◌∙◌, append_assoc, append-nil, mul-le-mul, add-mul, suc-mul, arith, le-ltb, lt-ltb, ne_eqb, length-append, length-drop, drop_of_length-le, take_all, take_at, drop_at, drop-drop}
-use Rattle.std.proofs.Math.Option.{Option, none, some}
+use Rattle.std.specs.Prelude.{◌≡◌, refl, true, false, cond, List, [], ◌∷◌, ◌++◌, map, ℕ, zero, suc, ◌+◌, ◌*◌, ◌-◌, ◌^◌, ◌≤◌, ◌<◌, eqb, ltb, ℤ, length, get_or, take, drop}
+use Rattle.std.proofs.Common.{sym, ap, ap₂, ◌∙◌, append_assoc, append-nil, mul-le-mul, add-mul, suc-mul, arith, le-ltb, lt-ltb, ne_eqb, length-append, length-drop, drop_of_length-le, take_all, take_at, drop_at, drop-drop}
+use Rattle.std.proofs.Math.Option.{none, some}
 use Rattle.std.proofs.Math.Decide.{dec_lt}
 use Rattle.std.proofs.lemmas.List.{length-map}
 use Rattle.meaning.specs.Limits.{text_limit, row_limit, group_limit, position_limit, workspace_words}
@@ -23,7 +23,6 @@ use Rattle.engine.specs.Answers.{shown_word}
 use Rattle.engine.specs.Laws.{map_both}
 use Rattle.repetition.specs.Listings.{words_of, spans_of}
 use Rattle.repetition.specs.Passing.{placed, Passes}
-use Rattle.repetition.specs.declared.Tally.{Tally}
 
 -- ---- the matches from a start on, by what the run there found
 

@@ -1,6 +1,6 @@
 -- From what a pass promises to the promise of the call.
 use Rattle.std.specs.Prelude.{◌≡◌, refl, not, List, [], ◌∷◌, ◌++◌, ℕ, zero, suc, ◌+◌, ◌*◌, ◌-◌, ◌≤◌, ◌<◌, ℤ, length, get_or, drop}
-use Rattle.std.proofs.Common.{sym, ap, ap₂, ◌∙◌, mul-le-mul, mul-le-mul_right, arith, le-ltb, lt-ltb}
+use Rattle.std.proofs.Common.{ap, ap₂, ◌∙◌, mul-le-mul, mul-le-mul_right, arith, le-ltb, lt-ltb}
 use Rattle.std.proofs.lemmas.Bool.{not-false}
 use Rattle.meaning.specs.Limits.{text_limit, group_limit, workspace_words}
 use Rattle.meaning.specs.Refusals as No

@@ -1,5 +1,5 @@
 -- What a call for every match answers and leaves behind. Definitions only.
-use Rattle.std.specs.Prelude.{◌≡◌, cond, not, List, [], ◌∷◌, ◌++◌, map, ℕ, zero, suc, ◌*◌, ◌≤◌, ltb, ℤ, length, get_or, drop}
+use Rattle.std.specs.Prelude.{◌≡◌, cond, not, List, [], ◌∷◌, ◌++◌, map, ℕ, zero, suc, ◌≤◌, ltb, ℤ, length, get_or, drop}
 use Rattle.meaning.specs.Limits.{text_limit, workspace_words}
 use Rattle.meaning.specs.Refusals as No
 use Rattle.meaning.specs.Grounds.{Ground, ground, first_of}

@@ -4,7 +4,7 @@ use Rattle.std.proofs.Common.{sym, ap, subst, ◌∙◌, arith, ltb-true, leb-tr
 use Rattle.std.proofs.lemmas.Bool.{false≢true}
 use Rattle.std.proofs.Math.Option.{Option}
 use Rattle.std.proofs.Math.Decide.{dec_lt}
-use Rattle.sets.specs.Sets.{below, between, has}
+use Rattle.sets.specs.Sets.{between, has}
 use Rattle.sets.specs.Bits.{below_at}
 use Rattle.meaning.specs.Tests.{and_true, by_test}
 use Rattle.meaning.specs.Text.{passes, registers_of}
@@ -13,9 +13,9 @@ use Rattle.meaning.specs.Limits.{group_limit, row_limit, least_rows, code_words}
 use Rattle.machine.specs.Rows.{Row, Row.accept, Row.consume, Row.jump, Row.fork, Row.opens, Row.closes, Row.reset}
 use Rattle.machine.specs.Rows.{Row.begin, Row.end, Row.assertion}
 use Rattle.machine.specs.Rows.{row_count, row_at}
-use Rattle.machine.specs.Kinds.{first_word, second_word, accept_kind, assert_kind, listed}
+use Rattle.machine.specs.Kinds.{first_word, second_word, accept_kind, assert_kind}
 use Rattle.machine.specs.Words.{word_at, rows_said, groups_said, row_start, decode_row, row_in, rows_in, decode, row_passes}
-use Rattle.machine.specs.Words.{may_be_last, each_passes, last_passes, rows_pass, header_passes, code_passes}
+use Rattle.machine.specs.Words.{may_be_last, each_passes, last_passes, rows_pass, code_passes}
 use Rattle.machine.specs.Checked.{Checked}
 use Rattle.machine.proofs.Checked.{checked}
 use Rattle.machine.proofs.Coded.{rows_in_at, rows_in_length}

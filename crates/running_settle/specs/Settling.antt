@@ -1,5 +1,5 @@
 -- The turns of a position, one after the other: the machine that the words stand for is reached by steps.
-use Rattle.std.specs.Prelude.{◌≡◌, refl, Bool, true, false, List, ◌++◌, ℕ, ◌+◌, ◌-◌, ◌<◌, ◌≤◌, length, get_or}
+use Rattle.std.specs.Prelude.{◌≡◌, refl, Bool, true, false, List, ◌++◌, ℕ, ◌+◌, ◌<◌, ◌≤◌, length, get_or}
 use Rattle.std.proofs.Common.{sym, ap, ap₂, ◌∙◌, subst, ⊎_elim, true≢false, arith}
 use Rattle.machine.specs.Steps.{Thread}
 use Rattle.running_threads.specs.Words.{words_at, Pasted}

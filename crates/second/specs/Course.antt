@@ -1,5 +1,5 @@
 -- The course of a search on the words: from where it begins to its end.
-use Rattle.std.specs.Prelude.{◌≡◌, refl, true, false, List, [], ◌∷◌, map, ℕ, zero, suc, ◌+◌, ◌*◌, ◌-◌, ◌<◌, ◌≤◌, length, get_or, replicate}
+use Rattle.std.specs.Prelude.{◌≡◌, refl, true, false, List, [], ◌∷◌, map, ℕ, zero, suc, ◌+◌, ◌*◌, ◌<◌, ◌≤◌, length, get_or, replicate}
 use Rattle.std.proofs.Common.{sym, ap, ap₂, ◌∙◌, subst, true≢false, mul_comm, mul_assoc, mul-add, mul-le-mul, not-suc-le-zero, arith}
 use Rattle.std.proofs.Math.Option.{Option, none}
 use Rattle.meaning.specs.Limits.{second_limit, second_words, row_limit, group_limit}

@@ -1,5 +1,5 @@
 -- What each move leaves, on the words.
-use Rattle.std.specs.Prelude.{◌≡◌, refl, true, false, ℕ, suc, ◌+◌, ◌-◌, ◌<◌, ◌≤◌, length, get_or, set}
+use Rattle.std.specs.Prelude.{◌≡◌, refl, true, false, ℕ, suc, ◌+◌, ◌<◌, ◌≤◌, length, get_or, set}
 use Rattle.std.proofs.Common.{sym, ap, ◌∙◌, subst, true≢false, add-one, arith, length-set, get_or-set_other}
 use Rattle.std.proofs.Math.Path.{ap₂}
 use Rattle.std.proofs.lemmas.Bool.{false≢true}

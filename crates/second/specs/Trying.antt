@@ -1,5 +1,5 @@
 -- A step on the words is a step of the search.
-use Rattle.std.specs.Prelude.{◌≡◌, refl, Bool, true, false, List, ℕ, suc, ◌+◌, ◌-◌, ◌<◌, ◌≤◌, length, get_or, set}
+use Rattle.std.specs.Prelude.{◌≡◌, refl, Bool, true, false, List, ℕ, suc, ◌+◌, ◌<◌, ◌≤◌, get_or, set}
 use Rattle.std.proofs.Common.{sym, ap, ap₂, ◌∙◌, subst, arith, eq-eqb, ne_eqb, length-set, get_or-set_other}
 use Rattle.std.proofs.Math.Option.{Option, none}
 use Rattle.meaning.specs.Text.{Regs, registers_of, byte_before, byte_after}

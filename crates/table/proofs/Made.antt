@@ -1,27 +1,23 @@
 -- A pattern whose parts stand in a table: what `derive` and `put` make of it. Assumes nothing.
 use mathlib.Core.Path.{◌≡◌, refl, sym, ap, ap₂, ◌∙◌}
 use mathlib.Core.List.{List, [], ◌∷◌, ◌++◌, append_assoc}
-use Prim.Native.Nat.{ℕ, zero, suc, ◌+◌, ◌-◌, ◌*◌, ◌≤◌, ◌<◌, max}
-use native.Mathlib.Nat.{not-suc-le-zero}
+use Prim.Native.Nat.{ℕ, ◌+◌, ◌*◌, ◌≤◌, ◌<◌, max}
 use native.Mathlib.Omega.{arith}
 use mathlib.Core.Option.{none, some}
-use lib.Dec.{lit≤}
-use lib.ListN.{length, take, drop, get_or}
-use lib.Seq.{paste, take-paste, drop-paste, length-paste, take_all, ext_get_or}
+use lib.ListN.{length, take, get_or}
+use lib.Seq.{paste, take-paste, drop-paste, length-paste, take_all}
 use borrow.Author.Tests.{eq-eqb, ne_eqb}
 use Rattle.sets.specs.Laws.{one_by_one}
-use Rattle.sets.specs.Laws.{tab, tab_at}
 use Rattle.meaning.specs.Node.{Node, Node.empty, Node.bset, Node.assert, Node.group, Node.seq, Node.alt, Node.many, Proper, lo}
 use Rattle.meaning.specs.Node.{hi}
 use Rattle.meaning.specs.Results.{concat_map}
 use Rattle.machine.specs.Layout.{size_of}
 use Rattle.meaning.specs.Limits.{no_maximum}
-use Rattle.table.specs.Table.{record_words, size_cap, quantifier_kind, records_in, record_count, record_of, own_record, records}
-use Rattle.meaning.specs.All.{All}
-use Rattle.table.specs.Laws.{inner, kind_of, operand_of, last_of, own, count_all, inner_words}
-use Rattle.table.specs.Derived.{record_limit, derived_of, leaf_of, along_from, along_of, closed_size, closed_of, closed, make}
+use Rattle.table.specs.Table.{record_words, size_cap, quantifier_kind, records_in, own_record, records}
+use Rattle.table.specs.Laws.{inner, kind_of, last_of, own, count_all, inner_words}
+use Rattle.table.specs.Derived.{derived_of, leaf_of, along_of, closed_size, closed_of, closed, make}
 use Rattle.table.specs.Derived.{make_same, along_count}
-use Rattle.table.specs.Stands.{Stands, Series, Made, Along, Derives, SomeMade, SomeSeries, Closing, Puts}
+use Rattle.table.specs.Stands.{Made, Along, Derives, SomeMade, SomeSeries, Closing, Puts}
 use Rattle.table.specs.Roots.{fewer, series_few}
 use Rattle.table.specs.declared.Derived.{Derived}
 

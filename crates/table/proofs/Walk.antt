@@ -1,7 +1,7 @@
 -- The walk of `along` over a series of parts, from the last one back. Assumes nothing.
-use mathlib.Core.Path.{◌≡◌, refl, sym, ap, ap₂, ◌∙◌}
+use mathlib.Core.Path.{◌≡◌, refl, sym, ap, ◌∙◌}
 use mathlib.Core.List.{List, [], ◌∷◌, ◌++◌, append_assoc}
-use Prim.Native.Nat.{ℕ, zero, suc, ◌+◌, ◌-◌, ◌*◌, ◌≤◌, ◌<◌}
+use Prim.Native.Nat.{ℕ, ◌-◌, ◌*◌, ◌≤◌, ◌<◌}
 use native.Mathlib.Nat.{not-suc-le-zero}
 use native.Mathlib.Omega.{arith}
 use lib.ListN.{length, length-append}
@@ -9,8 +9,8 @@ use Rattle.meaning.specs.Node.{Node}
 use Rattle.meaning.specs.Results.{concat_map}
 use Rattle.table.specs.Table.{record_words, size_cap, record_count, records}
 use Rattle.table.specs.Laws.{count_all}
-use Rattle.table.specs.Derived.{record_limit, derived_of, beside_of, along_from, along_of, root_of, along_count}
-use Rattle.table.specs.Stands.{Series, Ends, Beside}
+use Rattle.table.specs.Derived.{derived_of, beside_of, along_from, along_of, root_of, along_count}
+use Rattle.table.specs.Stands.{Series, Ends}
 use Rattle.table.specs.Roots.{some_records, few_records_lem, root_derived, some_last, among_ends}
 use Rattle.table.specs.declared.Derived.{Derived}
 

@@ -1,6 +1,6 @@
 -- The derived words of a record, by those of its parts: how many records a part has, its size in rows, its lowest and highest
 -- group.
-use Rattle.std.specs.Prelude.{◌≡◌, refl, Bool, List, [], ◌∷◌, ℕ, zero, suc, ◌+◌, ◌-◌, ◌*◌, ◌≤◌, ◌<◌, min, max, length, get_or, eqb, cond, true, false}
+use Rattle.std.specs.Prelude.{◌≡◌, refl, Bool, List, [], ◌∷◌, ℕ, zero, suc, ◌+◌, ◌-◌, ◌*◌, ◌≤◌, ◌<◌, min, max, length, get_or, eqb, cond}
 use Rattle.std.proofs.Common.{sym, ap, ◌∙◌, mul-le-mul_right, not-suc-le-zero, ne_eqb, arith}
 use Rattle.std.proofs.Math.Option.{Option, none, some}
 use Rattle.std.proofs.Math.Decide.{dec_le}

@@ -5,7 +5,7 @@ use Rattle.std.proofs.Common.{sym, ap, ◌∙◌, append_assoc, append-nil, not-
 use Rattle.sets.specs.Laws.{eight_words}
 use Rattle.meaning.specs.Limits.{set_words}
 use Rattle.meaning.specs.Node.{Node, Proper, lo, hi}
-use Rattle.meaning.specs.All.{All, all_left, all_right}
+use Rattle.meaning.specs.All.{all_left, all_right}
 use Rattle.meaning.specs.Results.{concat_map}
 use Rattle.machine.specs.Layout.{size_of}
 use Rattle.table.specs.Table.{kind_word, operand_word, records_word, items_word, size_word, lowest_word, highest_word, set_word}

@@ -1,7 +1,7 @@
 -- What stands in a table below a record, and the contracts of the table's functions. Each is a record, so that callers name no
 -- argument.
-use Rattle.std.specs.Prelude.{◌≡◌, List, [], ◌∷◌, ◌++◌, ℕ, ◌+◌, ◌*◌, ◌≤◌, ◌<◌, length, take, drop, get_or}
-use Rattle.meaning.specs.Limits.{count_limit, no_maximum}
+use Rattle.std.specs.Prelude.{◌≡◌, List, ◌++◌, ℕ, ◌+◌, ◌*◌, ◌≤◌, ◌<◌, length, take, drop, get_or}
+use Rattle.meaning.specs.Limits.{no_maximum}
 use Rattle.meaning.specs.Node.{Node, Proper}
 use Rattle.meaning.specs.Results.{concat_map}
 use Rattle.table.specs.Table.{record_words, size_cap, quantifier_kind, records}

@@ -11,7 +11,7 @@ use Rattle.meaning.specs.Limits.{no_maximum}
 use Rattle.table.specs.Table.{record_count, maximum, bit_of, empty_kind, assertion_kind, quantifier_kind}
 use Rattle.table.specs.Laws.{inner, kind_of, last_of}
 use Rattle.tidying_laws.specs.Groups.{groups, Positive, proper_positive, positive_both, group_free, free_groups, same_high}
-use Rattle.tidying_laws.specs.Equal.{same, same_eq, same_refl}
+use Rattle.tidying_laws.specs.Equal.{same_eq, same_refl}
 use Rattle.tidying_laws.specs.Quantified.{absorbed}
 use Rattle.tidying_laws.specs.Laws.{when, counts, is_empty, on_assert, on_many, t2, t3, t4, t5, t9, t10}
 use Rattle.tidying_fitting.specs.Fitting.{is_some, fits}

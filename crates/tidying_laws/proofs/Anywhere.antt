@@ -1,14 +1,10 @@
 -- Each law inside any surrounding pattern: what a part becomes is alike there, and the standard's algorithm answers the same.
-use Rattle.std.specs.Prelude.{◌≡◌, ℕ, ◌≤◌}
+use Rattle.std.specs.Prelude.{◌≡◌}
 use Rattle.std.proofs.Common.{subst, arith}
 use Rattle.std.proofs.Math.Option.{some}
-use Rattle.meaning.specs.Text.{Input, size}
 use Rattle.meaning.specs.Node.{Node}
-use Rattle.meaning.specs.Numbering.{Numbers}
-use Rattle.meaning.specs.Standard.{match_at, search_from}
 use Rattle.meaning.specs.All.{All}
 use Rattle.tidying_laws.specs.Groups.{groups, Positive, positive, positive_both}
-use Rattle.tidying_laws.specs.Void.{Fair}
 use Rattle.tidying_laws.specs.Alike.{Alike}
 use Rattle.tidying_laws.specs.Around.{Around, Around.here, Around.in_group, Around.before, Around.after, Around.above}
 use Rattle.tidying_laws.specs.Around.{Around.below, Around.in_many, fill, anywhere, same_match, same_search}

@@ -1,5 +1,5 @@
 -- The search for a law: what its first place and lowest law are, when it finds none, and that places are records.
-use Rattle.std.specs.Prelude.{◌≡◌, refl, List, [], ◌∷◌, ◌++◌, map, ℕ, zero, suc, ◌+◌, ◌-◌, ◌≤◌, length, get_or, drop}
+use Rattle.std.specs.Prelude.{◌≡◌, refl, List, [], ◌∷◌, map, ℕ, zero, suc, ◌+◌, ◌-◌, ◌≤◌, length, get_or, drop}
 use Rattle.std.proofs.Common.{ap, subst, ◌∙◌, arith, add-one, length-append, get_or-append-add, drop-cons}
 use Rattle.std.proofs.Math.Option
 use Rattle.std.proofs.Math.Option.{Option, none, some, IsSome, map-eq-none_iff, none-ne-some, some-ne-none, some-injective}

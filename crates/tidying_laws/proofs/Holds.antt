@@ -4,7 +4,7 @@ use Rattle.std.proofs.Common.{sym, subst, inl, inr, arith}
 use Rattle.std.proofs.Math.Option.{Option}
 use Rattle.meaning.specs.Node.{Node, Node.assert, Node.many}
 use Rattle.meaning.specs.Flat.{Kind, Kind.sequence, Kind.alternation, parts, join, items, of_items, join_parts, adds_parts}
-use Rattle.tidying_laws.specs.Groups.{groups, Positive, group_free}
+use Rattle.tidying_laws.specs.Groups.{Positive, group_free}
 use Rattle.tidying_laws.specs.Alike.{Alike}
 use Rattle.tidying_laws.specs.Measures.{groups_adds}
 use Rattle.tidying_laws.proofs.Quantified.{T2-one, T2-none, T3, T4-none, T4-some, T5, T9, T10}

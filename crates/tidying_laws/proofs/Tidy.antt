@@ -1,5 +1,5 @@
 -- The tidier's theorems: what is tidied is alike, with the same groups and no more rows, and no law fits it anywhere.
-use Rattle.std.specs.Prelude.{◌≡◌, refl, ℕ, zero, suc, ◌+◌, ◌*◌, ◌≤◌, ◌<◌}
+use Rattle.std.specs.Prelude.{◌≡◌, refl, ℕ, zero, suc, ◌+◌, ◌*◌, ◌≤◌}
 use Rattle.std.proofs.Math.Path.{sym, subst}
 use Rattle.std.proofs.Common.{◌∙◌, arith}
 use Rattle.std.proofs.Math.Option.{Option, none, some}

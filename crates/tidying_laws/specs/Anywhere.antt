@@ -1,19 +1,12 @@
 -- Each law inside any surrounding pattern: what a part becomes is alike there, and the standard's algorithm answers the same.
 use Rattle.std.specs.Prelude.{◌≡◌, ℕ, ◌≤◌}
-use Rattle.std.proofs.Common.{subst, arith}
-use Rattle.std.proofs.Math.Option.{some}
 use Rattle.meaning.specs.Text.{Input, size}
 use Rattle.meaning.specs.Node.{Node}
 use Rattle.meaning.specs.Numbering.{Numbers}
 use Rattle.meaning.specs.Standard.{match_at, search_from}
-use Rattle.meaning.specs.All.{All}
-use Rattle.tidying_laws.specs.Groups.{groups, Positive, positive, positive_both}
 use Rattle.tidying_laws.specs.Void.{Fair}
-use Rattle.tidying_laws.specs.Alike.{Alike}
-use Rattle.tidying_laws.specs.Around.{Around, Around.here, Around.in_group, Around.before, Around.after, Around.above}
-use Rattle.tidying_laws.specs.Around.{Around.below, Around.in_many, fill, anywhere, same_match, same_search}
-use Rattle.tidying_laws.specs.Kept.{Ok}
-use Rattle.tidying_laws.specs.List.{laws, becomes}
+use Rattle.tidying_laws.specs.Around.{Around}
+use Rattle.tidying_laws.specs.Around.{fill}
 
 -- and there the standard's algorithm matches the same and finds the same with both, with every group, from any start.
 abbrev pub SameAnywhere : Node → Node → Type 0

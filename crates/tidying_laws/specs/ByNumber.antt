@@ -1,12 +1,8 @@
 -- The laws by their numbers, which count from 1 in the order of the list: no other number has a law.
-use Rattle.std.specs.Prelude.{◌≡◌, refl, ◌∷◌, ℕ, zero, suc, ◌≤◌, length}
-use Rattle.std.proofs.Common.{sym, ap, ◌∙◌, arith}
-use Rattle.std.proofs.Math.Option.{Option, none, some, none-ne-some}
-use Rattle.std.proofs.Math.Decide.{dec_le}
-use Rattle.std.proofs.Math.ListN.{get_or-eq_default}
+use Rattle.std.specs.Prelude.{◌≡◌, ℕ, zero, suc, ◌≤◌, length}
+use Rattle.std.proofs.Math.Option.{Option, none}
 use Rattle.meaning.specs.Node.{Node}
 use Rattle.tidying_laws.specs.List.{laws}
-use Rattle.tidying_laws.specs.Tidier.{lowest}
 use Rattle.tidying_laws.specs.Found.{nth}
 
 -- The law that fits nothing.

@@ -1,18 +1,10 @@
 -- The search for a law: what its first place and lowest law are, when it finds none, and that places are records.
-use Rattle.std.specs.Prelude.{◌≡◌, refl, List, [], ◌∷◌, ◌++◌, map, ℕ, zero, suc, ◌+◌, ◌-◌, ◌≤◌, length, get_or, drop}
-use Rattle.std.proofs.Common.{ap, subst, ◌∙◌, arith, add-one, length-append, get_or-append-add, drop-cons}
-use Rattle.std.proofs.Math.Option
-use Rattle.std.proofs.Math.Option.{Option, none, some, IsSome, map-eq-none_iff, none-ne-some, some-ne-none, some-injective}
-use Rattle.std.proofs.lemmas.List.{length-map}
-use Rattle.std.proofs.Math.Seq.{drop-length}
-use Rattle.meaning.specs.Node.{Node, Node.empty, Node.bset, Node.assert, Node.group, Node.seq, Node.alt, Node.many}
-use Rattle.meaning.specs.Results.{or_else}
-use Rattle.meaning.specs.Flat.{Kind, Kind.sequence, Kind.alternation, Not, pair}
-use Rattle.tidying_laws.specs.Charge.{is_pair, not_pair, records}
-use Rattle.tidying_laws.specs.List.{laws, words}
-use Rattle.tidying_laws.specs.Tidier.{whole, places, first_at, lowest, found, tidy_step}
-use Rattle.meaning.specs.All.{All, all_imp}
-use Rattle.tidying_laws.specs.Kept.{Ok, ok_else, ok_map}
+use Rattle.std.specs.Prelude.{◌≡◌, List, ◌∷◌, ◌++◌, ℕ, ◌+◌, ◌-◌, length, get_or, drop}
+use Rattle.std.proofs.Math.Option.{Option, none, some}
+use Rattle.meaning.specs.Node.{Node}
+use Rattle.tidying_laws.specs.List.{laws}
+use Rattle.tidying_laws.specs.Tidier.{places, first_at}
+use Rattle.meaning.specs.All.{All}
 
 -- What stands at the number found, and that nothing before it succeeds.
 pub record First {A B : Type 0} (c : A → Option B) (n : ℕ) (l : List A) (i : ℕ) (b : B) : Type 0 where

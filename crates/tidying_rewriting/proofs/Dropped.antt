@@ -1,5 +1,5 @@
 -- T6 and T7 in a table: where the alternative that goes stands, and what is said without it.
-use Rattle.std.specs.Prelude.{◌≡◌, List, [], ◌∷◌, ◌++◌, ℕ, ◌+◌, ◌-◌, ◌*◌, ◌≤◌, ◌<◌, length, get_or}
+use Rattle.std.specs.Prelude.{◌≡◌, List, ◌∷◌, ◌++◌, ℕ, ◌+◌, ◌-◌, ◌*◌, ◌≤◌, ◌<◌, length, get_or}
 use Rattle.std.proofs.Common.{sym, ap, subst, ◌∙◌, append_assoc, arith, length-append}
 use Rattle.meaning.specs.Node.{Node, Node.bset, Proper}
 use Rattle.meaning.specs.Flat.{Kind, Kind.alternation, Not}
@@ -11,7 +11,7 @@ use Rattle.table.specs.Table.{record_words, record_count, records}
 use Rattle.meaning.specs.All.{All, all_append, all_left, all_right}
 use Rattle.table.specs.Laws.{inner, kind_of, parts_flat}
 use Rattle.table.specs.Laws.{count_all}
-use Rattle.table.specs.Stands.{Stands, Ends, Series, SomePart}
+use Rattle.table.specs.Stands.{Ends, Series, SomePart}
 use Rattle.table.specs.Roots.{inside, among_ends}
 use Rattle.tidying_laws.specs.Void.{void}
 use Rattle.tidying_laws.specs.Laws.{t7}

@@ -9,14 +9,14 @@ use Rattle.table.specs.Laws.{inner, kind_of}
 use Rattle.tidying_laws.specs.Choices.{any}
 use Rattle.tidying_laws.specs.Groups.{group_free}
 use Rattle.tidying_laws.specs.Void.{void}
-use Rattle.tidying_laws.specs.Laws.{when, two, on_parts, is_void, distinct, possible, t6, t7}
+use Rattle.tidying_laws.specs.Laws.{when, two, is_void, distinct, possible, t6, t7}
 use Rattle.tidying_laws.specs.Kept.{Ok, ok_test, ok_map, ok_when, ok_else, ok_two}
 use Rattle.tidying_fitting.specs.Places.{Split, behind, Test, leftmost}
 use Rattle.tidying_fitting.specs.Wants.{wants, without, distinct_leftmost, possible_leftmost}
 use Rattle.tidying_fitting.specs.declared.Want.{Want}
 use Rattle.tidying_fitting.specs.declared.Want.TheVariants.{Equal, Void}
 use Rattle.tidying_shapes.specs.Skeleton.{token, row_token}
-use Rattle.tidying_rewriting.specs.Rewriting.{Rule, Narrower, ok_same, narrower_same, ok_some}
+use Rattle.tidying_rewriting.specs.Rewriting.{Narrower, ok_same, narrower_same, ok_some}
 use Rattle.tidying_rewriting.specs.Series.{SeriesOf, series_of}
 use Rattle.tidying_rewriting.specs.Dropping.{dropping, without_wanted}
 

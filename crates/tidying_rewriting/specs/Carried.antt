@@ -1,12 +1,7 @@
 -- What is carried out for the law of each number: the law itself, or a wider rule that several laws have in common.
-use Rattle.std.specs.Prelude.{◌≡◌, refl, List, [], ◌∷◌, map, ℕ, zero, suc, get_or}
-use Rattle.std.proofs.Common.{sym, subst}
-use Rattle.tidying_laws.specs.Laws.{t1, t7, t8}
-use Rattle.tidying_laws.specs.List.{laws}
-use Rattle.tidying_laws.specs.ByNumber.{nothing, law_of, IsLaw}
-use Rattle.tidying_laws.proofs.ByNumber.{is_law}
-use Rattle.tidying_rewriting.specs.Rewriting.{Rule, SomeFitting, Rewrites, Narrower, narrower_same, some_wide}
-use Rattle.tidying_rewriting.specs.Rewriting.{rewrites_narrow}
+use Rattle.std.specs.Prelude.{◌≡◌, List, ℕ}
+use Rattle.tidying_laws.specs.ByNumber.{law_of, IsLaw}
+use Rattle.tidying_rewriting.specs.Rewriting.{SomeFitting, Rewrites}
 
 -- What is asked, if a law has the number: that it fits.
 abbrev pub Asked : ℕ → List ℕ → ℕ → ℕ → Type 0

@@ -5,9 +5,8 @@ use Prim.Native.Nat.{ℕ, ◌+◌, ◌-◌, ◌*◌, ◌≤◌}
 use native.Mathlib.Omega.{arith}
 use lib.ListN.{length, get_or, take, drop, set, length-append, length-take, length-drop, length-set, take-append-drop}
 use lib.Seq.{paste, drop-paste, length-paste, take_at, take-take, length-take-le, take-set-le, drop-set-lt}
-use lib.Seq.{get_or-set_same, get_or-set_other, ext_get_or}
+use lib.Seq.{get_or-set_same, get_or-set_other}
 use Rattle.sets.specs.Laws.{one_by_one}
-use Rattle.sets.specs.Laws.{tab, tab_at}
 use Rattle.table.specs.Table.{record_words}
 use Rattle.tidying_shapes.specs.Skeleton.{Token, token_of}
 use Rattle.tidying_shapes.specs.Tokens.{token_at, Says}

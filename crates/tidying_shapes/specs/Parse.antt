@@ -1,17 +1,12 @@
 -- Patterns are rebuilt from their tokens by a machine with a stack: a token takes the parts that it closes off the top, and puts
 -- what they make there. So equal tokens are those of equal patterns.
-use Rattle.std.specs.Prelude.{◌≡◌, refl, Bool, true, false, cond, List, [], ◌∷◌, ◌++◌, ℕ, suc, ◌+◌, ◌-◌, ◌≤◌, eqb, length, get_or, take, drop}
-use Rattle.std.proofs.Common.{sym, ap, ap₂, subst, ◌∙◌, append_assoc, append-nil, arith, length-append, take_at, drop_at, ne_eqb}
+use Rattle.std.specs.Prelude.{cond, List, [], ◌∷◌, ◌++◌, ℕ, ◌-◌, eqb, length, get_or, take, drop}
 use Rattle.std.proofs.Math.Option.{Option, none, some}
-use Rattle.meaning.specs.Node.{Node, Node.empty, Node.bset, Node.assert, Node.group, Node.seq, Node.alt, Node.many, Within}
-use Rattle.meaning.specs.Node.{Proper}
-use Rattle.meaning.specs.Flat.{Kind, Kind.sequence, Kind.alternation, pair, Not, parts, join, join_parts, parts_alone}
-use Rattle.meaning.specs.Results.{concat_map}
+use Rattle.meaning.specs.Node.{Node, Node.empty, Node.bset, Node.assert, Node.group, Node.many}
+use Rattle.meaning.specs.Flat.{Kind.sequence, Kind.alternation, join}
 use Rattle.meaning.specs.Limits.{no_maximum}
-use Rattle.table.specs.Table.{set_kind, assertion_kind, group_kind, sequence_kind, alternation_kind, quantifier_kind, maximum, bit_of}
-use Rattle.meaning.specs.All.{All}
-use Rattle.table.specs.Laws.{inner}
-use Rattle.tidying_shapes.specs.Skeleton.{Token, token, row_token, closing, skeleton_in, skeleton, pair_in, row_token_lem}
+use Rattle.table.specs.Table.{set_kind, assertion_kind, group_kind, sequence_kind, alternation_kind, quantifier_kind}
+use Rattle.tidying_shapes.specs.Skeleton.{Token}
 
 -- The first of the parts that a token closes, and the turns that a maximum leaves above the minimum.
 abbrev pub first_part : List Node → Node

@@ -3,13 +3,12 @@ use Rattle.std.specs.Prelude.{◌≡◌, refl, Bool, List, [], ◌∷◌, ◌++�
 use Rattle.std.proofs.Math.Path.{sym}
 use Rattle.std.proofs.Common.{ap, subst, ◌∙◌, append_assoc, append-nil, arith}
 use Rattle.std.proofs.Math.Bool.{true, false}
-use Rattle.meaning.specs.Node.{Node, Proper}
+use Rattle.meaning.specs.Node.{Node}
 use Rattle.meaning.specs.Results.{concat_map}
 use Rattle.table.specs.Table.{record_count, records}
-use Rattle.meaning.specs.All.{all_left, all_right}
-use Rattle.table.specs.Laws.{count_all, count_append, records_append, long_all, inner_count}
+use Rattle.table.specs.Laws.{count_all, count_append, inner_count}
 use Rattle.table.specs.Roots.{among_ends}
-use Rattle.table.specs.Roots.{stands_under, Last, some_last, last_ends, shorter}
+use Rattle.table.specs.Roots.{Last, some_last, last_ends, shorter}
 use Rattle.table.specs.Stands.{Ends, Series, SomePart}
 use Rattle.tidying_fitting.specs.Parts.{Tells, TellsBoth}
 use Rattle.tidying_fitting.specs.Parts.{room}

@@ -15,7 +15,6 @@ use Rattle.tidying_fitting.specs.Wants.{alike}
 use Rattle.table.specs.Stands.{Series}
 use Rattle.table.specs.Roots.{front_series}
 use Rattle.table.specs.Roots.{inside}
-use Rattle.tidying_fitting.specs.Parts.{room}
 use Rattle.tidying_shapes.specs.Skeleton.{Token, token, row_token, skeleton_in, skeleton}
 use Rattle.tidying_shapes.specs.Tokens.{Says}
 use Rattle.tidying_shapes.specs.Laws.{says_length, says_at}

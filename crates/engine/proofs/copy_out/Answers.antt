@@ -1,6 +1,6 @@
 use mir.Syntax.{w32}
 use mir.Val.{to_z, of_z}
-use Prim.Native.Nat.{ℕ, ◌-◌}
+use Prim.Native.Nat.{ℕ}
 use mathlib.Core.Path.{◌≡◌, refl, ◌∙◌, ap}
 use mathlib.Core.List.{◌++◌, map}
 use native.Mathlib.Omega.{arith}
@@ -11,13 +11,12 @@ use Rattle.engine.specs.Laws.{shown_more, read_back}
 use Rattle.engine.proofs.copy_out.Goals as goal
 
 pub loop-i-preserved : goal.loop-i-preserved
-loop-i-preserved c =
-    (
-      omega arith,
-      simp length-set c.loop-i.invariant.1,
-      shown_more c.args.work.now c.args.from c.loop-i.i c.args.registers.now c.loop-i.registers (to_z w32 (of_z w32 c.show.result))
-          (omega arith) (omega arith) c.loop-i.invariant.2 (read_back c.show.result c.show.type_inv ∙ c.show.ensures),
-    )
+loop-i-preserved c = (
+  omega arith,
+  simp length-set c.loop-i.invariant.1,
+  shown_more c.args.work.now c.args.from c.loop-i.i c.args.registers.now c.loop-i.registers (to_z w32 (of_z w32 c.show.result))
+      (omega arith) (omega arith) c.loop-i.invariant.2 (read_back c.show.result c.show.type_inv ∙ c.show.ensures),
+)
 
 pub returns : goal.returns
 returns c =

@@ -1,5 +1,4 @@
 use mathlib.Core.Path.{refl, ◌∙◌}
-use Prim.Native.Nat.{◌-◌}
 use native.Mathlib.Omega.{arith}
 use Rattle.running_threads.specs.Laws.{stack_on, wiped_none, wiped_more, wiped_all}
 use Rattle.running_threads.proofs.wipe.Goals as goal

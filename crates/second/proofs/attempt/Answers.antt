@@ -41,12 +41,15 @@ bounds-work-mark-2 c = omega (arith, low (goal.at.bounds-work-mark-2 c).Start)
 
 pub follow-requires : goal.follow-requires
 follow-requires c =
-    record { going = (still_runs c.requires.standing.0 c.requires.standing.1 c.if-work-mark-eq-TRIED.false, room_left c.requires.standing.0 c.requires.standing.1 c.if-work-mark-eq-TRIED.false); ranged = (
+    record {
+      going = (still_runs c.requires.standing.0 c.requires.standing.1 c.if-work-mark-eq-TRIED.false, room_left c.requires.standing.0 c.requires.standing.1 c.if-work-mark-eq-TRIED.false);
+      ranged = (
         move_ranged c.requires.standing.0 c.requires.standing.1 c.if-work-mark-eq-TRIED.false c.requires.ready.0 c.requires.ready.1 _ _ c.byte_before-before.ensures
             c.byte_after-after.ensures c.move_of-mv.ensures,
         move_ahead c.requires.standing.0 c.requires.standing.1 c.if-work-mark-eq-TRIED.false c.requires.ready.0 c.requires.ready.1 _ _ c.byte_before-before.ensures
             c.byte_after-after.ensures c.move_of-mv.ensures,
-      ) }
+      );
+    }
 
 pub shape_of-work : goal.shape_of-work
 shape_of-work c = simp length-set at c.follow.auto.work

@@ -1,6 +1,6 @@
 use mathlib.Core.Path.{◌≡◌, refl, sym, ◌∙◌}
 use mathlib.Core.Bool.{Bool, true, false, ◌&&◌, ◌||◌}
-use Prim.Native.Nat.{ℕ, ◌+◌, ◌-◌, ◌≤◌, ◌<◌, max}
+use Prim.Native.Nat.{ℕ, ◌+◌, ◌≤◌, ◌<◌, max}
 use native.Mathlib.Omega.{arith}
 use lib.Dec.{eqb, leb, ltb}
 use borrow.Author.Rules.{rules}
@@ -42,12 +42,11 @@ pub loop-b-init : goal.loop-b-init
 loop-b-init c = (search rules, search rules, holds_to c.none-r.ensures (λ x h. begun c.args.first x))
 
 pub loop-b-preserved : goal.loop-b-preserved
-loop-b-preserved c =
-    (
-      search rules,
-      search rules,
-      holds_to (holds_more c.loop-b.b c.loop-b.invariant.2 c.with-n.ensures) (λ x h. next c.args.first c.loop-b.b x c.loop-b.invariant.0),
-    )
+loop-b-preserved c = (
+  search rules,
+  search rules,
+  holds_to (holds_more c.loop-b.b c.loop-b.invariant.2 c.with-n.ensures) (λ x h. next c.args.first c.loop-b.b x c.loop-b.invariant.0),
+)
 
 pub returns : goal.returns
 returns c =

@@ -1,5 +1,5 @@
 use mathlib.Core.Path.{refl}
-use Prim.Native.Nat.{◌-◌, ◌/◌, ◌%◌}
+use Prim.Native.Nat.{◌/◌, ◌%◌}
 use lib.ListN.{get_or}
 use lib.Bits.{or_lt}
 use borrow.Author.Rules.{rules}

@@ -1,5 +1,5 @@
 -- `table::along` meets its contract: the walk over the series's parts goes on as the loop does. Assumes nothing.
-use Prim.Native.Nat.{ℕ, ◌-◌}
+use Prim.Native.Nat.{ℕ}
 use mathlib.Core.List.{List}
 use Rattle.meaning.specs.Node.{Node}
 use Rattle.table.specs.Stands.{Series}

@@ -1,5 +1,5 @@
 use borrow.Author.Rules.{rules}
-use Prim.Native.Nat.{◌+◌, ◌-◌}
+use Prim.Native.Nat.{◌+◌}
 use native.Mathlib.Omega.{arith}
 use mathlib.Core.Path.{◌≡◌, refl, ap, ◌∙◌}
 use lib.ListN.{get_or, set, length-set}
@@ -32,15 +32,14 @@ pub loop-k-smaller : goal.loop-k-smaller
 loop-k-smaller c = search rules
 
 pub loop-k-preserved : goal.loop-k-preserved
-loop-k-preserved c =
-    (
-      search rules,
-      simp length-set c.loop-k.invariant.1,
-      ap (λ l. set l (c.args.base + c.loop-k.k) (get_or c.args.words.now c.loop-k.k 0)) c.loop-k.invariant.2
-          ∙ paste-suc c.args.table.now c.args.base c.args.words.now c.loop-k.k 0 (omega arith) (omega arith)
-          ∙ rw add-one,
-      c.loop-k.invariant.3,
-    )
+loop-k-preserved c = (
+  search rules,
+  simp length-set c.loop-k.invariant.1,
+  ap (λ l. set l (c.args.base + c.loop-k.k) (get_or c.args.words.now c.loop-k.k 0)) c.loop-k.invariant.2
+      ∙ paste-suc c.args.table.now c.args.base c.args.words.now c.loop-k.k 0 (omega arith) (omega arith)
+      ∙ rw add-one,
+  c.loop-k.invariant.3,
+)
 
 pub shape_of-table : goal.shape_of-table
 shape_of-table c = search rules

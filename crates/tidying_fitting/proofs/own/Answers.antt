@@ -1,6 +1,5 @@
 -- Each word is read from the part's own record.
 use Rattle.tidying_fitting.proofs.Told.{asked, own_told}
-use Prim.Native.Nat.{◌-◌}
 use native.Mathlib.Omega.{arith}
 use Rattle.tidying_fitting.proofs.own.Goals as goal
 

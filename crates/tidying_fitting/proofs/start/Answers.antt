@@ -1,6 +1,5 @@
 use mathlib.Core.Path.{refl}
 use Rattle.tidying_fitting.proofs.Told.{few_told}
-use Prim.Native.Nat.{◌-◌}
 use Rattle.tidying_fitting.proofs.Told.{start_told}
 use Rattle.tidying_fitting.proofs.start.Goals as goal
 

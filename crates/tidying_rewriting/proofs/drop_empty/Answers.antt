@@ -50,15 +50,14 @@ pub loop-left-smaller-then-word-eq-EMPTY : goal.loop-left-smaller-then-word-eq-E
 loop-left-smaller-then-word-eq-EMPTY c = omega arith
 
 pub loop-left-preserved-then-word-eq-EMPTY : goal.loop-left-preserved-then-word-eq-EMPTY
-loop-left-preserved-then-word-eq-EMPTY c =
-    (
-      record {
-        by = λ before x y l m fit. filling_gone (c.loop-left.invariant.0.by before x y l m fit) (going (goal.at.loop-left-preserved-then-word-eq-EMPTY c).In-loop-left)
-            c.word.ensures c.if-word-eq-EMPTY.true c.cut-count.ensures;
-      },
-      c.cut-count.auto.table ∙ c.loop-left.invariant.1,
-      omega arith,
-    )
+loop-left-preserved-then-word-eq-EMPTY c = (
+  record {
+    by = λ before x y l m fit. filling_gone (c.loop-left.invariant.0.by before x y l m fit) (going (goal.at.loop-left-preserved-then-word-eq-EMPTY c).In-loop-left)
+        c.word.ensures c.if-word-eq-EMPTY.true c.cut-count.ensures;
+  },
+  c.cut-count.auto.table ∙ c.loop-left.invariant.1,
+  omega arith,
+)
 
 pub word-requires-in-loop-left : goal.word-requires-in-loop-left
 word-requires-in-loop-left c = omega (arith, there (goal.at.word-requires-in-loop-left c).In-loop-left)
@@ -71,15 +70,14 @@ pub loop-left-smaller : goal.loop-left-smaller
 loop-left-smaller c = omega arith
 
 pub loop-left-preserved : goal.loop-left-preserved
-loop-left-preserved c =
-    (
-      record {
-        by = λ before x y l m fit. filling_kept (c.loop-left.invariant.0.by before x y l m fit) (going (goal.at.loop-left-preserved c).In-loop-left)
-            c.word.ensures c.if-word-eq-EMPTY.false c.word-in-loop-left.ensures;
-      },
-      c.loop-left.invariant.1,
-      omega arith,
-    )
+loop-left-preserved c = (
+  record {
+    by = λ before x y l m fit. filling_kept (c.loop-left.invariant.0.by before x y l m fit) (going (goal.at.loop-left-preserved c).In-loop-left)
+        c.word.ensures c.if-word-eq-EMPTY.false c.word-in-loop-left.ensures;
+  },
+  c.loop-left.invariant.1,
+  omega arith,
+)
 
 pub overflow_add-top : goal.overflow_add-top
 overflow_add-top c = omega (arith, within c.requires.fitting.placed, room (goal.at.overflow_add-top c).After-loop-left)

@@ -1,6 +1,6 @@
 -- The invariant: of the items behind those still to be walked the filled ones are left. The measure: those still to be walked.
 use mathlib.Core.Path.{◌≡◌}
-use Prim.Native.Nat.{◌+◌, ◌-◌, ◌≤◌}
+use Prim.Native.Nat.{◌+◌, ◌≤◌}
 use lib.ListN.{length}
 use Rattle.tidying_rewriting.proofs.Filling.{Fills}
 use Rattle.tidying_rewriting.proofs.drop_empty.Given as goal

@@ -55,13 +55,12 @@ pub loop-k-smaller : goal.loop-k-smaller
 loop-k-smaller c = search rules
 
 pub loop-k-preserved : goal.loop-k-preserved
-loop-k-preserved c =
-    (
-      search rules,
-      simp length-set c.loop-k.invariant.1,
-      up_turn c.args.table.now (16 * (c.args.at + 1)) (16 * c.args.at) c.loop-k.k (16 * (c.args.n - c.args.at)) (omega arith) (omega arith)
-          (omega arith) (omega arith) c.loop-k.invariant.2,
-    )
+loop-k-preserved c = (
+  search rules,
+  simp length-set c.loop-k.invariant.1,
+  up_turn c.args.table.now (16 * (c.args.at + 1)) (16 * c.args.at) c.loop-k.k (16 * (c.args.n - c.args.at)) (omega arith) (omega arith)
+      (omega arith) (omega arith) c.loop-k.invariant.2,
+)
 
 pub shape_of-table : goal.shape_of-table
 shape_of-table c = search rules

@@ -1,5 +1,5 @@
 use mathlib.Core.Path.{ap, ◌∙◌}
-use Prim.Native.Nat.{◌+◌, ◌-◌}
+use Prim.Native.Nat.{◌+◌}
 use borrow.Author.Tests.{not-true, not-false}
 use Rattle.sets.specs.Laws.{words_of}
 use Rattle.reading_atoms.specs.Classes.{Class.holds}

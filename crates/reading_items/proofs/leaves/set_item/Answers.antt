@@ -15,8 +15,7 @@ overflow_add-top c = search rules
 
 pub quantified-requires : goal.quantified-requires
 quantified-requires c =
-    let (fine, formed) = c.requires in
-    (
+    let (fine, formed) = c.requires in (
       behind_set fine c.put.auto.table,
       record {
         before = take (record_words * c.args.top) c.args.table.now;

@@ -60,12 +60,11 @@ pub literal_set-requires : goal.literal_set-requires
 literal_set-requires c = search rules
 
 pub set_item-requires-in_default : goal.set_item-requires-in_default
-set_item-requires-in_default c =
-    (
-      fine_on (c.args.at + 1) c.requires.0 (omega arith) (omega (arith, c.requires.1)),
-      rw c.literal_set.ensures
-          (set_of_holds (takes (get_or c.args.s.now c.args.at 0))).formed,
-    )
+set_item-requires-in_default c = (
+  fine_on (c.args.at + 1) c.requires.0 (omega arith) (omega (arith, c.requires.1)),
+  rw c.literal_set.ensures
+      (set_of_holds (takes (get_or c.args.s.now c.args.at 0))).formed,
+)
 
 pub shape_of-table-in-91 : goal.shape_of-table-in-91
 shape_of-table-in-91 c = search rules

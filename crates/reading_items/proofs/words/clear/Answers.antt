@@ -1,4 +1,3 @@
-use Prim.Native.Nat.{◌-◌}
 use borrow.Author.Rules.{rules}
 use Rattle.reading_items.proofs.Clearing.{clear_start, clear_more, clear_done}
 use Rattle.reading_items.proofs.words.clear.Goals as goal

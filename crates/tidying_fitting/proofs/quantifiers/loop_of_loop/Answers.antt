@@ -1,7 +1,6 @@
 use borrow.Author.Tests.{not-true, not-false}
 use mathlib.Core.Path.{refl}
 use native.Mathlib.Omega.{arith}
-use Prim.Native.Nat.{◌-◌}
 use lib.Dec.{leb}
 use Rattle.tidying_laws.specs.Laws.{t5}
 use Rattle.tidying_fitting.specs.Fitting.{fits}

@@ -1,6 +1,5 @@
 use borrow.Author.Tests.{not-true, not-false, eq-eqb, ne_eqb}
 use native.Mathlib.Omega.{arith}
-use Prim.Native.Nat.{◌-◌}
 use Rattle.tidying_laws.specs.Laws.{t10}
 use Rattle.tidying_fitting.specs.Fitting.{fits}
 use Rattle.tidying_fitting.proofs.Told.{asked, quantified_passed, part_asked, on_quantifier, first_fails, first_passes}

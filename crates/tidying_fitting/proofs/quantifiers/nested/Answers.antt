@@ -1,7 +1,6 @@
 use borrow.Author.Tests.{not-true, not-false}
 use mathlib.Core.Path.{sym, ◌∙◌}
 use native.Mathlib.Omega.{arith}
-use Prim.Native.Nat.{◌-◌}
 use Rattle.tidying_fitting.proofs.Told.{asked, quantified_ranged, part_asked, on_quantifier, off_ranged}
 use Rattle.tidying_fitting.specs.Words.{nested_in}
 use Rattle.tidying_fitting.proofs.quantifiers.nested.Goals as goal

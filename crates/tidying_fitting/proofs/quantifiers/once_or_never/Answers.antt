@@ -1,4 +1,3 @@
-use Prim.Native.Nat.{◌-◌}
 use borrow.Author.Tests.{eq-eqb, ne_eqb, le-leb, lt-leb}
 use Rattle.tidying_laws.specs.Laws.{t2}
 use Rattle.tidying_fitting.specs.Fitting.{fits}

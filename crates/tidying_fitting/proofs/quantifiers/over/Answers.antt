@@ -2,7 +2,6 @@ use mathlib.Core.Path.{refl}
 use lib.Dec.{eqb}
 use Rattle.table.specs.Laws.{kind_of}
 use native.Mathlib.Omega.{arith}
-use Prim.Native.Nat.{◌-◌}
 use lib.Dec.{eqb}
 use Rattle.tidying_fitting.proofs.Told.{asked, quantified_kind, part_asked, on_quantifier, off_kind}
 use Rattle.tidying_fitting.proofs.quantifiers.over.Goals as goal

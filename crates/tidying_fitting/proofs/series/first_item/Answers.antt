@@ -1,5 +1,4 @@
 use native.Mathlib.Omega.{arith}
-use Prim.Native.Nat.{◌-◌}
 use Rattle.tidying_fitting.proofs.Passed.{turn_part, first_alone, pass_first, pass_turn, pass_more, pass_last}
 use Rattle.tidying_fitting.proofs.Told.{asked}
 use Rattle.tidying_fitting.proofs.series.first_item.Goals as goal

@@ -1,5 +1,4 @@
 use native.Mathlib.Omega.{arith}
-use Prim.Native.Nat.{◌-◌}
 use Rattle.tidying_fitting.proofs.Walked.{last_asked, series_some, series_asked}
 use Rattle.tidying_fitting.proofs.Walked.{repeat_first, repeat_more, repeat_found, repeat_over}
 use Rattle.tidying_fitting.proofs.series.repeats.Goals as goal

@@ -1,5 +1,4 @@
 use native.Mathlib.Omega.{arith}
-use Prim.Native.Nat.{◌-◌}
 use Rattle.tidying_fitting.proofs.Blocks.{starts, counts_differ, words_compare}
 use Rattle.tidying_fitting.proofs.series.same_part.Goals as goal
 

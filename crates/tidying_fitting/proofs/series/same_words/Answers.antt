@@ -1,6 +1,5 @@
 use borrow.Author.Rules.{rules}
 use native.Mathlib.Omega.{arith}
-use Prim.Native.Nat.{◌-◌}
 use mathlib.Core.Bool.{false≢true, true≢false}
 use borrow.Author.Count.{below_none, below_more}
 use Rattle.tidying_fitting.proofs.series.same_words.Goals as goal
