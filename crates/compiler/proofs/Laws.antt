@@ -1,11 +1,10 @@
 -- What `compile` and `compile_tidied` do meets their promise.
 use Rattle.std.proofs.Math.Path.{◌≡◌, refl, sym, ap, ap₂}
 use Rattle.std.proofs.Common.{◌∙◌, arith, lt-ltb, le-ltb, ltb-true, ltb-false}
-use Rattle.std.specs.Prelude.{Bool, true, false, cond, List, [], ◌++◌, ℕ, zero, suc, ◌+◌, ◌*◌, ◌-◌, ◌≤◌, ◌<◌, min, ltb, length, take, replicate}
-use Rattle.std.proofs.Math.Option.{none, some}
+use Rattle.std.specs.Prelude.{Bool, true, false, cond, List, ◌++◌, ℕ, zero, suc, ◌+◌, ◌*◌, ◌-◌, ◌≤◌, ◌<◌, min, ltb, length, take, replicate}
 use Rattle.meaning.specs.Limits.{row_limit, least_rows, code_words}
 use Rattle.meaning.specs.Refusals as No
-use Rattle.meaning.specs.Node.{Node, Node.empty, Node.bset, Node.assert, Node.group, Node.seq, Node.alt, Node.many, Proper}
+use Rattle.meaning.specs.Node.{Node, Proper}
 use Rattle.meaning.specs.Numbering.{Numbers}
 use Rattle.machine.specs.Layout.{size_of}
 use Rattle.table.specs.Table.{record_words, size_cap, record_count}

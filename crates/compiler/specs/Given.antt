@@ -1,16 +1,15 @@
 -- A pattern that was read is stored in its table.
-use Rattle.std.specs.Prelude.{◌≡◌, refl, Bool, true, false, List, ℕ, zero, suc, ◌-◌, ◌*◌, ◌≤◌, ltb, length, replicate}
+use Rattle.std.specs.Prelude.{◌≡◌, refl, Bool, true, false, List, ℕ, suc, ◌-◌, ◌*◌, ◌≤◌, ltb, length, replicate}
 use Rattle.std.proofs.Common.{sym, ap, subst₂, ◌∙◌, arith, length-append, take_at, ltb-false}
-use Rattle.std.proofs.Math.Option.{none, some}
 use Rattle.meaning.specs.Bytes.{Bytes}
 use Rattle.meaning.specs.Limits.{pattern_limit, table_words, depth_limit}
 use Rattle.meaning.specs.Refusals as No
-use Rattle.meaning.specs.Node.{Node, Node.empty, Node.bset, Node.assert, Node.group, Node.seq, Node.alt, Node.many, Proper}
+use Rattle.meaning.specs.Node.{Node, Proper}
 use Rattle.table.specs.Table.{record_words, record_count, records}
 use Rattle.table.specs.Laws.{long}
 use Rattle.table.specs.Stands.{Stands}
 use Rattle.reading_atoms.specs.Chars.{choose}
-use Rattle.reading_items.specs.Facts.{Fair, fair_proper}
+use Rattle.reading_items.specs.Facts.{fair_proper}
 use Rattle.reading_items.specs.Kept.{Read}
 use Rattle.reading_items.specs.Read.{atom_laws, what_is_read}
 use Rattle.reading_items.specs.Reading.{Reading, Reading.pattern, Reading.refused, alternatives_at, whole, first_high, reading}

@@ -1,13 +1,13 @@
 -- Runs that the promise of `match_at` and `search` rules out, whatever answers them: one that never finds, one whose span is the
 -- same wherever it finds, and one with another count than the steps'. What is asked of it can be had: the definitions answer so.
-use Rattle.std.specs.Prelude.{◌≡◌, refl, Bool, true, List, [], ◌∷◌, ◌++◌, ℕ, zero, suc, ◌+◌, ◌*◌, ◌-◌, ◌≤◌, ◌<◌, ℤ, pos, length, drop, get_or, replicate}
-use Rattle.std.proofs.Common.{sym, ap, subst, ◌∙◌, arith}
+use Rattle.std.specs.Prelude.{◌≡◌, refl, List, [], ◌∷◌, ◌++◌, ℕ, zero, suc, ◌+◌, ◌*◌, ◌-◌, ◌≤◌, ℤ, pos, length, drop}
+use Rattle.std.proofs.Common.{sym, ap, ◌∙◌, arith}
 use Rattle.std.proofs.Math.Option.{Option, none, some}
 use Rattle.meaning.specs.Quoted.{bytes}
 use Rattle.meaning.specs.Flat.{parts}
 use Rattle.meaning.specs.Text.{Regs, registers_of, unset, fits, opened, closed, cleared, wiped}
 use Rattle.meaning.specs.Bytes.{Bytes}
-use Rattle.meaning.specs.Node.{Node, Node.empty}
+use Rattle.meaning.specs.Node.{Node.empty}
 use Rattle.meaning.specs.Standard.{matcher, match_at, search_from}
 use Rattle.machine.specs.Layout.{size_of}
 use Rattle.machine.specs.Steps.{count, best}
@@ -15,7 +15,7 @@ use Rattle.machine.specs.Words.{rows_said}
 use Rattle.machine.specs.Replies.{Reply, Reply.found, Reply.missing, Reply.refused, lent_by, turned_away, refusal, run_of}
 use Rattle.machine.specs.Replies.{answer_of, reply_to, reply, spans, registers_after}
 use Rattle.reading_items.specs.Reading.{Reading.pattern, sequence_go, alternatives_go, reading}
-use Rattle.compiler.specs.Compiling.{plain, compilation, table_at, code_at, Compiles}
+use Rattle.compiler.specs.Compiling.{plain, table_at, code_at, Compiles}
 use Rattle.compiler.specs.declared.Compilation.TheVariants.{Rows}
 use Rattle.engine.specs.Answers.{reply_of, executed, Answered}
 use Rattle.engine.specs.declared.Answer.{Answer}

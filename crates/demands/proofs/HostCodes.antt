@@ -1,5 +1,5 @@
 -- The code's bytes after compiling: those of the program in front, or all as they were.
-use Rattle.std.specs.Prelude.{◌≡◌, refl, Bool, List, ◌++◌, ℕ, zero, suc, ◌≤◌, length}
+use Rattle.std.specs.Prelude.{◌≡◌, refl, Bool, List, ℕ, zero, suc, ◌≤◌, length}
 use Rattle.std.proofs.Common.{ap, subst, ◌∙◌, arith, ltb-false}
 use Rattle.meaning.specs.Bytes.{Bytes}
 use Rattle.meaning.specs.Limits.{depth_limit, row_limit, code_words, table_size}
@@ -18,7 +18,7 @@ use Rattle.reading_grammar.proofs.Sound.{Sound, sound}
 use Rattle.code_rows.specs.Emission.{rows_needed}
 use Rattle.compiler.specs.Compiling.{shaped, program_grounds, unwritten, answer_for, code_for, answer_by, code_left}
 use Rattle.compiler.proofs.Laws.{is_shaped}
-use Rattle.millkettle.specs.Compiled.{Coded, coded}
+use Rattle.millkettle.specs.Compiled.{coded}
 use Rattle.wire.specs.Wire.{words_of, bytes_of_words, written}
 use Rattle.wire.specs.Words.{words_length}
 use Rattle.wire.proofs.Written.{words_over, words_same}

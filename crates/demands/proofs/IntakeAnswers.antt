@@ -1,5 +1,5 @@
 -- What the intake program writes for a text line is what the standard's search finds on the pattern of the first line.
-use Rattle.std.specs.Prelude.{◌≡◌, Bool, List, [], ◌∷◌, ◌++◌, map, eqb, pos, get_or, take, replicate}
+use Rattle.std.specs.Prelude.{◌≡◌, Bool, List, [], ◌∷◌, ◌++◌, eqb, pos, get_or, take, replicate}
 use Rattle.std.proofs.Math.Path.{refl, sym, ap, ap₂}
 use Rattle.std.proofs.Common.{subst, ◌∙◌, arith}
 use Rattle.std.proofs.Math.Bool.{true, false}
@@ -14,16 +14,15 @@ use Rattle.meaning.specs.All.{All}
 use Rattle.meaning.specs.Tests.{by_test}
 use Rattle.meaning.specs.Text.{Regs, registers_of}
 use Rattle.meaning.specs.Bytes.{Bytes, text_of}
-use Rattle.meaning.specs.Limits.{text_limit, line_feed, workspace_words, table_size, code_size, workspace_size}
-use Rattle.meaning.specs.Refusals as No
-use Rattle.meaning.specs.Grounds.{Ground, ground, first_of}
+use Rattle.meaning.specs.Limits.{text_limit, line_feed, table_size, code_size}
+use Rattle.meaning.specs.Grounds.{first_of}
 use Rattle.meaning.specs.Results.{concat_map}
 use Rattle.meaning.specs.Node.{Node}
 use Rattle.meaning.specs.Standard.{search_from}
 use Rattle.machine.specs.Steps.{Machine, best, count, search_row}
 use Rattle.machine.specs.Words.{groups_said, decode}
 use Rattle.machine.proofs.Width.{spans_length}
-use Rattle.machine.specs.Replies.{refusal, run_of, reply_to, reply, shown, spans, registers_from, registers_after}
+use Rattle.machine.specs.Replies.{refusal, run_of, reply_to, reply, spans, registers_from, registers_after}
 use Rattle.running_moves.specs.Ready.{Ready, ready}
 use Rattle.reading_items.specs.Reading.{reading}
 use Rattle.reading_grammar.specs.Grammar.{Derives}
@@ -33,7 +32,7 @@ use Rattle.compiler.specs.declared.Compilation.TheVariants.{Rows}
 use Rattle.millkettle.specs.Compiled.{Coded, Compiled}
 use Rattle.millkettle.specs.Compiled as Millkettle
 use Rattle.millkettle.specs.Laws.{Way.searching, conditions, finds}
-use Rattle.intake_report.specs.Texts.{spans_line, header_line, refused_run, none_line}
+use Rattle.intake_report.specs.Texts.{spans_line, header_line}
 use Rattle.intake_report.specs.Lines.{lines_of, on_first}
 use Rattle.intake_lines.specs.Intake.{line_limit, register_count, compiled, code_from, pattern_line, reply_line, lent_for, numbers_for}
 use Rattle.intake_lines.specs.Intake.{line_for, lines_for, output_for, intake_output}

@@ -1,6 +1,6 @@
 -- What a pattern is answered with by `compile` and `compile_tidied`, by the grammar's own words and no parser's, and what they
 -- leave behind.
-use Rattle.std.specs.Prelude.{◌≡◌, refl, ◌↔◌, Bool, true, false, List, [], ◌∷◌, ℕ, zero, suc, ◌≤◌, ◌<◌, ltb, length, replicate, get_or}
+use Rattle.std.specs.Prelude.{◌≡◌, refl, ◌↔◌, Bool, List, ℕ, zero, suc, ◌≤◌, ◌<◌, ltb, length, get_or}
 use Rattle.std.proofs.Common.{sym, ap, subst, ◌∙◌, arith, lt-ltb, le-ltb, ltb-true, ltb-false, le-leb}
 use Rattle.std.proofs.Math.Decide.{dec_lt}
 use Rattle.std.proofs.lemmas.Bool.{lt-leb}
@@ -12,13 +12,13 @@ use Rattle.meaning.specs.Node.{Node}
 use Rattle.meaning.specs.Bytes.{Bytes}
 use Rattle.reading_items.specs.Reading.{Reading, Reading.pattern, Reading.refused, reading}
 use Rattle.reading_grammar.specs.Grammar.{Derives}
-use Rattle.reading_grammar.specs.Refusals.{Checks.small, TurnedAway}
+use Rattle.reading_grammar.specs.Refusals.{Checks.small}
 use Rattle.reading_grammar.proofs.Sound.{Sound, sound}
 use Rattle.reading_grammar.proofs.Complete.{complete}
 use Rattle.reading_grammar.proofs.First.{refused_first, first_refused, read_none}
 use Rattle.code_rows.specs.Emission.{rows_needed}
 use Rattle.compiler.specs.Compiling.{shaped, unwritten, answer_for, table_for, code_for, answer_by, table_left, code_left}
-use Rattle.compiler.specs.Compiling.{compilation, Compiles}
+use Rattle.compiler.specs.Compiling.{Compiles}
 use Rattle.compiler.specs.declared.Compilation.{Compilation}
 use Rattle.compiler.specs.declared.Compilation.TheVariants.{Rows, Refused}
 use Rattle.demands.specs.Patterns.{Left, Replies, many, rows, short, turned}

@@ -11,23 +11,20 @@ use Rattle.meaning.specs.Bytes.{Bytes, asserts, text_of}
 use Rattle.meaning.specs.Node.{Node}
 use Rattle.meaning.specs.Numbering.{Numbers}
 use Rattle.machine.specs.Allowed.{within}
-use Rattle.machine.specs.Replies.{Reply, Reply.found, Reply.missing, Reply.refused, Lent, lent_by, lent_grounds, turned_away}
+use Rattle.machine.specs.Replies.{Lent, lent_by, lent_grounds, turned_away}
 use Rattle.machine.specs.Replies.{lend, answer_of, spans}
-use Rattle.tidying_laws.specs.Alike.{Alike}
-use Rattle.tidying_laws.specs.Around.{Around, fill}
 use Rattle.meaning.specs.All.{All}
 use Rattle.tidying_laws.specs.Void.{fair}
-use Rattle.tidying_laws.specs.Within.{Stands}
-use Rattle.tidying_laws.specs.List.{words, becomes}
+use Rattle.tidying_laws.specs.List.{becomes}
 use Rattle.tidying_laws.specs.Anywhere.{SameAnywhere}
 use Rattle.tidying_laws.proofs.Anywhere.{laws_anywhere}
 use Rattle.tidying_laws.specs.Tidier.{tidy}
 use Rattle.tidying_laws.proofs.Tidy.{tidy_alike, tidy_rows, tidy_clean, tidy_match, tidy_search}
 use Rattle.reading_items.specs.Read.{what_is_read}
-use Rattle.reading_items.specs.Reading.{Reading.pattern, reading, table_by}
+use Rattle.reading_items.specs.Reading.{Reading.pattern, reading}
 use Rattle.code_rows.specs.Emission.{rows_needed}
 use Rattle.compiler.specs.Compiling.{plain, tidied, program_grounds, unwritten, answer_for, table_for, answer_by, table_left}
-use Rattle.compiler.specs.Compiling.{compilation, table_at, code_at, Compiles}
+use Rattle.compiler.specs.Compiling.{compilation, Compiles}
 use Rattle.millkettle.specs.Compiled.{Coded, Compiled, compiled}
 use Rattle.compiler.specs.declared.Compilation.{Compilation}
 use Rattle.compiler.specs.declared.Compilation.TheVariants.{Rows}

@@ -1,44 +1,26 @@
 -- What the promise of a call for every match says: its refusals in order, the bound of each run, the standard's matches, and
 -- that plain and tidied code give one list.
-use Rattle.std.specs.Prelude.{◌≡◌, Bool, true, false, cond, not, ltb, ℤ, length, drop}
-use Rattle.std.proofs.Math.Path.{refl, sym, ap}
-use Rattle.std.proofs.Common.{ap₂, subst, ◌∙◌, mul-le-mul_right, arith, le-ltb, lt-ltb, ltb-false}
-use mathlib.Core.List.{List, [], ◌∷◌, ◌++◌}
-use Prim.Native.Nat.{ℕ, zero, suc, ◌+◌, ◌*◌, ◌-◌, ◌≤◌, ◌<◌}
-use Rattle.std.proofs.lemmas.Bool.{not-false}
-use Rattle.meaning.specs.All.{All, all_imp}
-use Rattle.meaning.specs.Limits.{workspace_words}
-use Rattle.meaning.specs.Refusals as No
-use Rattle.meaning.specs.Grounds.{Ground, ground, first_of, none_holds, first_before, none_before, NoneOf, exactly_told}
+use Rattle.std.specs.Prelude.{◌≡◌, Bool, ℤ, length}
+use mathlib.Core.List.{List}
+use Prim.Native.Nat.{ℕ, suc, ◌+◌, ◌*◌, ◌-◌, ◌≤◌}
+use Rattle.meaning.specs.All.{All}
+use Rattle.meaning.specs.Grounds.{first_of}
 use Rattle.meaning.specs.Text.{Regs}
-use Rattle.meaning.specs.Bytes.{Bytes, text_of}
+use Rattle.meaning.specs.Bytes.{text_of}
 use Rattle.meaning.specs.Node.{Node}
-use Rattle.meaning.specs.Standard.{search_from}
 use Rattle.machine.specs.Steps.{Done, search_row}
-use Rattle.machine.proofs.Coded.{rows_in_length}
-use Rattle.machine.proofs.Passed.{run_done}
-use Rattle.machine.specs.Words.{rows_said, groups_said, rows_in, decode, code_passes}
+use Rattle.machine.specs.Words.{rows_said}
 use Rattle.machine.specs.Replies.{run_of}
-use Rattle.machine.specs.Repetition.{found_from, executed_from, run_starts, repetition, executed_in, standard_all, list_words}
+use Rattle.machine.specs.Repetition.{executed_from, run_starts, executed_in, standard_all, list_words}
 use Rattle.machine.specs.Repeated.{Rising}
-use Rattle.machine.proofs.Repeated.{starts_rise, starts_few, starts_inside, repeated_same, each_run}
 use Rattle.machine.specs.Once.{Once}
-use Rattle.machine.proofs.Once.{each_once}
-use Rattle.running_moves.specs.Ready.{Ready, ready}
 use Rattle.reading_items.specs.Reading.{Reading.pattern, reading}
 use Rattle.reading_grammar.specs.Grammar.{Derives}
-use Rattle.reading_grammar.proofs.Sound.{Sound, sound}
-use Rattle.tidying_laws.specs.Tidier.{tidy}
-use Rattle.compiler.specs.Compiling.{plain, tidied, shaped, Compiles}
-use Rattle.compiler.specs.declared.Compilation.{Compilation}
-use Rattle.compiler.specs.declared.Compilation.TheVariants.{Rows}
-use Rattle.repetition.specs.Listings.{listing_values, lent_all, repetition_grounds, repetition_refusal, words_of, list_grounds, listing_to}
-use Rattle.repetition.specs.Listings.{spans_of, list_from, Lists}
+use Rattle.compiler.specs.Compiling.{shaped}
+use Rattle.repetition.specs.Listings.{lent_all, listing_to}
+use Rattle.repetition.specs.Listings.{list_from}
 use Rattle.repetition.specs.declared.Listing.{Listing}
 use Rattle.repetition.specs.declared.Listing.TheVariants.{Listed, Short, Refused}
-use Rattle.millkettle.specs.Compiled.{Coded, Compiled, compiled}
-use Rattle.millkettle.specs.Laws.{Way.searching, finds}
-use Rattle.demands.specs.Tidied.{Twins}
 
 -- ---- demand 1
 

@@ -1,24 +1,13 @@
 -- What a pattern is answered with by `compile` and `compile_tidied`, by the grammar's own words and no parser's, and what they
 -- leave behind.
-use Rattle.std.specs.Prelude.{◌≡◌, refl, ◌↔◌, Bool, true, false, List, [], ◌∷◌, ℕ, zero, suc, ◌≤◌, ◌<◌, ltb, length, replicate, get_or}
-use Rattle.std.proofs.Common.{sym, ap, subst, ◌∙◌, arith, lt-ltb, le-ltb, ltb-true, ltb-false, le-leb}
-use Rattle.std.proofs.Math.Decide.{dec_lt}
-use Rattle.std.proofs.lemmas.Bool.{lt-leb}
-use Rattle.std.proofs.Math.ListN.{get_or-eq_default}
+use Rattle.std.specs.Prelude.{◌≡◌, Bool, List, ℕ, ◌≤◌, ◌<◌, length, replicate}
 use Rattle.meaning.specs.Limits.{table_words, row_limit, code_words}
 use Rattle.meaning.specs.Refusals as No
-use Rattle.meaning.specs.Tests.{by_test}
 use Rattle.meaning.specs.Node.{Node}
-use Rattle.meaning.specs.Bytes.{Bytes}
-use Rattle.reading_items.specs.Reading.{Reading, Reading.pattern, Reading.refused, reading}
 use Rattle.reading_grammar.specs.Grammar.{Derives}
-use Rattle.reading_grammar.specs.Refusals.{Checks.small, TurnedAway}
-use Rattle.reading_grammar.proofs.Sound.{Sound, sound}
-use Rattle.reading_grammar.proofs.Complete.{complete}
-use Rattle.reading_grammar.proofs.First.{refused_first, first_refused, read_none}
+use Rattle.reading_grammar.specs.Refusals.{TurnedAway}
 use Rattle.code_rows.specs.Emission.{rows_needed}
-use Rattle.compiler.specs.Compiling.{shaped, unwritten, answer_for, table_for, code_for, answer_by, table_left, code_left}
-use Rattle.compiler.specs.Compiling.{compilation, Compiles}
+use Rattle.compiler.specs.Compiling.{shaped}
 use Rattle.compiler.specs.declared.Compilation.{Compilation}
 use Rattle.compiler.specs.declared.Compilation.TheVariants.{Rows, Refused}
 

@@ -1,32 +1,20 @@
 -- What the promises of a run say of any code, and of code that says a pattern: the bound, the count, and the answer of the
 -- standard.
-use Rattle.std.specs.Prelude.{◌≡◌, refl, Bool, List, [], ◌∷◌, ◌++◌, ℕ, suc, ◌+◌, ◌*◌, ◌-◌, ◌≤◌, ◌<◌, ℤ, length, drop}
-use Rattle.std.proofs.Common.{sym, ap₂, subst, ◌∙◌, arith}
-use Rattle.std.proofs.Math.Path.{ap}
-use Rattle.std.proofs.Math.Option.{Option, none, some}
-use Rattle.meaning.specs.Text.{Regs, registers_of}
-use Rattle.meaning.specs.Bytes.{Bytes, text_of}
-use Rattle.meaning.specs.Limits.{least_rows}
+use Rattle.std.specs.Prelude.{◌≡◌, Bool, List, [], ◌∷◌, ◌++◌, ℕ, suc, ℤ, length, drop}
+use Rattle.meaning.specs.Text.{registers_of}
+use Rattle.meaning.specs.Bytes.{text_of}
 use Rattle.meaning.specs.Node.{Node}
-use Rattle.machine.specs.Steps.{Machine, best, count, seen, Done, steps, begun, first_thread, move_of}
-use Rattle.machine.proofs.Passed.{run_done, run_at_position, run_frugal}
-use Rattle.machine.proofs.Coded.{rows_in_length}
-use Rattle.machine.specs.Words.{rows_said, groups_said, rows_in, decode}
-use Rattle.machine.specs.Allowed.{within, Allowed, allowed}
-use Rattle.running_moves.specs.Ready.{Ready, ready}
-use Rattle.machine.specs.Replies.{Reply, Reply.found, Reply.missing, Reply.refused, values_of, Lent, lent_by, turned_away, refusal}
-use Rattle.machine.specs.Replies.{run_of, answer_of, reply_to, reply, spans, registers_from, registers_after}
+use Rattle.machine.specs.Steps.{Machine, steps, begun, first_thread, move_of}
+use Rattle.machine.specs.Words.{decode}
+use Rattle.machine.specs.Replies.{Reply, Reply.found, Reply.missing, Reply.refused, lent_by, turned_away}
+use Rattle.machine.specs.Replies.{answer_of, spans}
 use Rattle.reading_items.specs.Reading.{Reading.pattern, reading}
-use Rattle.compiler.specs.Compiling.{shaped, Compiles}
-use Rattle.millkettle.specs.Compiled.{Coded, Compiled, compiled}
-use Rattle.compiler.specs.declared.Compilation.TheVariants.{Rows}
-use Rattle.engine.specs.Answers.{reply_of, executed, Answered}
+use Rattle.compiler.specs.Compiling.{shaped}
+use Rattle.engine.specs.Answers.{reply_of, executed}
 use Rattle.engine.specs.declared.Answer.{Answer}
 use Rattle.engine.specs.declared.Answer.TheVariants.{Found, Missing, Refused}
-use Rattle.millkettle.specs.Laws.{Way, Way.matching, Way.searching, row_of, standard_by, finds, conditions}
+use Rattle.millkettle.specs.Laws.{Way, standard_by}
 use Rattle.reading_grammar.specs.Grammar.{Derives}
-use Rattle.reading_grammar.proofs.Sound.{Sound, sound}
-use Rattle.demands.specs.Patterns.{Replies}
 
 -- Answers of one reply are the same, and a run's reply has its count.
 unfoldable pub answer_as : Reply → Answer

@@ -1,39 +1,26 @@
 -- Demand 3, over the promises of the public calls: the tidied pattern answers as the plain one, has no more rows, and no law
 -- still applies to it.
-use Rattle.std.specs.Prelude.{◌≡◌, refl, Bool, List, [], ◌∷◌, ◌++◌, ℕ, suc, ◌+◌, ◌≤◌, ℤ, length, drop}
-use Rattle.std.proofs.Common.{sym, ap, ap₂, subst, ◌∙◌, mul-le-mul_right, arith, le-ltb, ltb-false}
-use Rattle.std.proofs.Math.Option.{Option, none, some}
-use Rattle.meaning.specs.Limits.{code_words, workspace_words}
-use Rattle.meaning.specs.Refusals as No
-use Rattle.meaning.specs.Grounds.{none_holds}
+use Rattle.std.specs.Prelude.{◌≡◌, List, ◌++◌, ℕ, ◌≤◌, ℤ, length, drop}
+use Rattle.std.proofs.Math.Option.{Option, none}
 use Rattle.meaning.specs.Text.{Regs, registers_of}
-use Rattle.meaning.specs.Bytes.{Bytes, asserts, text_of}
+use Rattle.meaning.specs.Bytes.{Bytes}
 use Rattle.meaning.specs.Node.{Node}
 use Rattle.meaning.specs.Numbering.{Numbers}
-use Rattle.machine.specs.Allowed.{within}
-use Rattle.machine.specs.Replies.{Reply, Reply.found, Reply.missing, Reply.refused, Lent, lent_by, lent_grounds, turned_away}
-use Rattle.machine.specs.Replies.{lend, answer_of, spans}
+use Rattle.machine.specs.Replies.{Reply, Reply.found, Reply.missing, Reply.refused}
+use Rattle.machine.specs.Replies.{spans}
 use Rattle.tidying_laws.specs.Alike.{Alike}
 use Rattle.tidying_laws.specs.Around.{Around, fill}
 use Rattle.meaning.specs.All.{All}
-use Rattle.tidying_laws.specs.Void.{fair}
 use Rattle.tidying_laws.specs.Within.{Stands}
-use Rattle.tidying_laws.specs.List.{words, becomes}
-use Rattle.tidying_laws.specs.Anywhere.{SameAnywhere}
-use Rattle.tidying_laws.proofs.Anywhere.{laws_anywhere}
+use Rattle.tidying_laws.specs.List.{words}
 use Rattle.tidying_laws.specs.Tidier.{tidy}
-use Rattle.tidying_laws.proofs.Tidy.{tidy_alike, tidy_rows, tidy_clean, tidy_match, tidy_search}
-use Rattle.reading_items.specs.Read.{what_is_read}
 use Rattle.reading_items.specs.Reading.{Reading.pattern, reading, table_by}
 use Rattle.code_rows.specs.Emission.{rows_needed}
-use Rattle.compiler.specs.Compiling.{plain, tidied, program_grounds, unwritten, answer_for, table_for, answer_by, table_left}
-use Rattle.compiler.specs.Compiling.{compilation, table_at, code_at, Compiles}
-use Rattle.millkettle.specs.Compiled.{Coded, Compiled, compiled}
-use Rattle.compiler.specs.declared.Compilation.{Compilation}
-use Rattle.compiler.specs.declared.Compilation.TheVariants.{Rows}
-use Rattle.engine.specs.Answers.{reply_of, executed, Answered}
-use Rattle.engine.specs.declared.Answer.{Answer}
-use Rattle.millkettle.specs.Laws.{Way, Way.matching, Way.searching, row_of, standard_by}
+use Rattle.compiler.specs.Compiling.{tidied}
+use Rattle.compiler.specs.Compiling.{table_at, code_at}
+use Rattle.millkettle.specs.Compiled.{Coded}
+use Rattle.engine.specs.Answers.{executed}
+use Rattle.millkettle.specs.Laws.{Way, standard_by}
 
 -- A pattern that was compiled tidied: what it was read as, its code, and what the table holds.
 pub record Neat (s table code : List ℕ) (n g : ℕ) : Type 1 where

@@ -1,1 +1,3 @@
+#![tactic(auto)]
+
 // Theorems over the promises of the calls: nothing here runs.

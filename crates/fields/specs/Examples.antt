@@ -1,5 +1,5 @@
 -- Spans and gates, computed: bits from an independent conversion, forms of 28, both sides of 15 digits, gates at their ends.
-use Rattle.std.specs.Prelude.{◌≡◌, refl, Bool, true, false, not, ◌&&◌, List, [], ◌∷◌, ℕ, ◌+◌, ◌-◌, eqb, ℤ, pos, negsuc, length, Float}
+use Rattle.std.specs.Prelude.{◌≡◌, refl, Bool, true, false, ◌&&◌, List, [], ◌∷◌, ℕ, ◌+◌, ◌-◌, eqb, pos, negsuc, length, Float}
 use Prim.Native.String.{String}
 use Rattle.std.specs.Float.{binary64}
 use Rattle.std.specs.Float.Ieee.{to_bits, of_bits, of_fields, div, of_int, neg, round, units, odd, size, span, climb, le, lt, eq, is_nan}
@@ -10,7 +10,6 @@ use Rattle.fields.specs.Scanning.{digits_from, unsigned, numeral_in, field_of}
 use Rattle.fields.specs.Gates.{passing_value, passing_field}
 use Rattle.fields.specs.declared.Field.{Field}
 use Rattle.fields.specs.declared.Field.TheVariants.{Number, Refused}
-use Rattle.fields.specs.declared.Gate.{Gate}
 use Rattle.fields.specs.declared.Gate.TheVariants.{AtMost, AtLeast, Between}
 use Rattle.fields.specs.declared.Passing.{Passing}
 use Rattle.fields.specs.declared.Passing.TheVariants.{Passes, Stopped, Refused as Unpassed}

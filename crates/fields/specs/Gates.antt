@@ -1,5 +1,5 @@
 -- Gates on readings: at most, at least, or between two limits, ends included. Definitions only.
-use Rattle.std.specs.Prelude.{Bool, cond, not, ◌&&◌, ◌||◌, List, ℕ, ℤ, Float}
+use Rattle.std.specs.Prelude.{Bool, cond, not, ◌&&◌, List, ℕ, ℤ, Float}
 use Rattle.std.specs.Float.Ieee.{le, lt, is_nan}
 use Rattle.meaning.specs.Refusals as No
 use Rattle.fields.specs.Scanning.{field_of}

@@ -1,6 +1,6 @@
 -- What is read is exactly what is written as a number.
 use Rattle.std.specs.Prelude.{◌≡◌, refl, Bool, true, false, cond, ◌&&◌, List, [], ◌∷◌, ◌++◌, ℕ, zero, suc, ◌+◌, ◌-◌, ◌*◌, ◌≤◌, ◌<◌, eqb, ltb, length}
-use Rattle.std.proofs.Common.{sym, ap, subst, ◌∙◌, append-nil, arith, ltb-true, eqb-true, lt-ltb, eq-eqb, ne_eqb}
+use Rattle.std.proofs.Common.{sym, ap, subst, ◌∙◌, append-nil, arith, ltb-true, eqb-true, lt-ltb, ne_eqb}
 use Rattle.std.proofs.lemmas.Bool.{false≢true}
 use Rattle.std.proofs.Math.Option.{Option, none, some}
 use Rattle.sets.specs.Sets.{is_digit}
@@ -8,7 +8,7 @@ use Rattle.meaning.specs.Limits.{digit_limit}
 use Rattle.meaning.specs.Tests.{and_true, by_test}
 use Rattle.fields.specs.Fields.{minus_sign, point, all_digits, number_from, number_of, Digits, Numeral, numeral}
 use Rattle.fields.specs.Fields.{Unsigned, whole, pointed, Written, plain, negative}
-use Rattle.fields.specs.Scanning.{Scanned, scanned, digits_from, ended, after_digits, begun, unsigned, numeral_in}
+use Rattle.fields.specs.Scanning.{Scanned, scanned, digits_from, ended, after_digits, unsigned, numeral_in}
 use Rattle.fields.specs.Laws.{over, other, more}
 
 -- ---- what is written is read

@@ -1,6 +1,6 @@
 -- What code holds of digits that it read, and how a digit more keeps it.
-use Rattle.std.specs.Prelude.{◌≡◌, refl, Bool, true, false, cond, ℕ, zero, suc, ◌+◌, ◌-◌, ◌*◌, ◌^◌, ◌≤◌, ◌<◌, T, eqb, ltb, leb, ℤ, pos, negsuc, length, get_or, take}
-use Rattle.std.proofs.Common.{sym, ◌∙◌, true≢false, arith, length-drop}
+use Rattle.std.specs.Prelude.{◌≡◌, refl, Bool, true, false, ℕ, zero, suc, ◌+◌, ◌-◌, ◌*◌, ◌^◌, ◌≤◌, ◌<◌, T, eqb, ltb, leb, ℤ, pos, negsuc, length, get_or, take}
+use Rattle.std.proofs.Common.{◌∙◌, true≢false, arith, length-drop}
 use Rattle.std.proofs.Math.Path.{ap}
 use Rattle.std.proofs.Math.Bool.{and-false}
 use Rattle.std.proofs.Math.Option.{Option, none, some}

@@ -1,6 +1,6 @@
 -- Floats against one another, as gates compare them.
-use Rattle.std.specs.Prelude.{◌≡◌, refl, Bool, true, false, not, ◌||◌, ◌&&◌, ℕ, ◌*◌, ℤ, Float}
-use Rattle.std.proofs.Math.Bool.{or-true, and-true, and-false}
+use Rattle.std.specs.Prelude.{◌≡◌, refl, Bool, true, false, not, ◌&&◌, Float}
+use Rattle.std.proofs.Math.Bool.{or-true, and-true}
 use Rattle.std.specs.Bool.{beq}
 use Rattle.std.proofs.lemmas.Bool.{false≢true}
 use Rattle.std.proofs.Common.{eq-eqb}

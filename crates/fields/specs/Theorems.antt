@@ -1,10 +1,10 @@
 -- What reading a span and passing a gate come to, over the calls' definitions.
-use Rattle.std.specs.Prelude.{◌≡◌, refl, Bool, true, false, cond, ◌↔◌, List, ℕ, ◌+◌, ◌≤◌, ◌^◌, ℤ, pos, Float}
+use Rattle.std.specs.Prelude.{◌≡◌, refl, true, false, cond, ◌↔◌, List, ℕ, ◌+◌, ◌^◌, ℤ, pos, Float}
 use Rattle.std.proofs.Common.{sym, ap, subst, ◌∙◌, arith}
 use Rattle.std.proofs.Math.Bool.{and-true}
 use Rattle.std.proofs.Math.Option.{Option, none, some}
 use Rattle.std.specs.Float.{inf, binary64}
-use Rattle.std.specs.Float.Ieee.{of_int, to_bits, round, le, lt, is_nan}
+use Rattle.std.specs.Float.Ieee.{of_int, to_bits, round, lt, is_nan}
 use Rattle.std.specs.Float.Ieee.Exact.{HasValue}
 use Rattle.meaning.specs.Refusals as No
 use Rattle.fields.specs.Fields.{span_of, Numeral, Written, quotient, reading_of, field_by}

@@ -1,9 +1,9 @@
 -- What a value is, in numbers: both casts are exact, and the division gives the float nearest to the decimal number.
-use Rattle.std.specs.Prelude.{◌≡◌, refl, Bool, true, false, cond, not, ◌⊎◌, List, [], ◌∷◌, ◌++◌, ℕ, zero, suc, ◌+◌, ◌-◌, ◌*◌, ◌^◌, ◌<◌, ◌≤◌, T, eqb, ltb, ℤ, pos, length, Float}
-use Rattle.std.proofs.Common.{sym, ap, subst, ◌∙◌, true≢false, inl, inr, ⊎_elim, mul_assoc, mul_comm, mul_left_comm, mul-pos, mul-one, zero-mul, le_trans, arith, le-leb, ne_eqb, length-append, pow_pos}
+use Rattle.std.specs.Prelude.{◌≡◌, refl, Bool, true, false, cond, ◌⊎◌, List, [], ◌∷◌, ◌++◌, ℕ, zero, suc, ◌+◌, ◌-◌, ◌*◌, ◌^◌, ◌<◌, ◌≤◌, T, ltb, ℤ, pos, length, Float}
+use Rattle.std.proofs.Common.{sym, ap, subst, ◌∙◌, true≢false, inl, inr, ⊎_elim, mul_assoc, mul_comm, mul_left_comm, mul-pos, mul-one, zero-mul, arith, le-leb, ne_eqb, length-append}
 use Rattle.std.proofs.Math.Nat.{pow-le-pow_right}
 use Rattle.std.specs.Float.{nan, inf, fin, binary64, Format}
-use Rattle.std.specs.Float.Ieee.{in_float, div, neg, of_int, round, units, odd, le, lt, eq, up, down, prec, is_nan, to_bits, top, hid, size, low, emax}
+use Rattle.std.specs.Float.Ieee.{in_float, div, neg, of_int, round, units, odd, le, lt, eq, up, down, prec, to_bits, low, emax}
 use Rattle.std.specs.Float.Ieee.Exact.{HasValue}
 use Rattle.std.specs.Float.Ieee.Back.{round_whole}
 use Rattle.std.specs.Float.Ieee.Scale.{round_same}
@@ -12,7 +12,7 @@ use Rattle.std.specs.Float.Ieee.Fits.{up_pos, down_pos}
 use Rattle.sets.specs.Sets.{is_digit}
 use Rattle.meaning.specs.Limits.{digit_limit}
 use Rattle.meaning.specs.Tests.{and_true}
-use Rattle.fields.specs.Fields.{point, all_digits, number_from, number_of, Digits, Numeral, numeral, quotient, value_of}
+use Rattle.fields.specs.Fields.{all_digits, number_from, number_of, Numeral, numeral, quotient, value_of}
 use Rattle.fields.specs.Fields.{Unsigned, whole, pointed, Written, plain, negative}
 use Rattle.fields.specs.Laws.{digit_bounds, small, next}
 

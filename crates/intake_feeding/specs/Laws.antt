@@ -1,7 +1,7 @@
 -- What the functions that take the input leave, step by step.
-use Rattle.std.specs.Prelude.{◌≡◌, Bool, true, false, ◌⊎◌, ℕ, zero, suc, ◌+◌, ◌-◌, ◌≤◌, ◌<◌, min, leb, ltb, get_or, set, take, drop}
+use Rattle.std.specs.Prelude.{◌≡◌, Bool, true, false, ◌⊎◌, ℕ, suc, ◌+◌, ◌-◌, ◌≤◌, ◌<◌, min, leb, ltb, get_or, set, take, drop}
 use Rattle.std.proofs.Math.Path.{refl}
-use Rattle.std.proofs.Common.{sym, ap, ap₂, ◌∙◌, inl, inr, zero-add, add-zero, add-one, arith, le-leb, leb-true, leb-false, eq-eqb, ne_eqb, length-take, drop_of_length-le, length-take-le, take_all, take-suc, take-suc-set, drop-cons}
+use Rattle.std.proofs.Common.{sym, ap, ap₂, ◌∙◌, inl, inr, zero-add, add-one, arith, le-leb, leb-true, leb-false, eq-eqb, ne_eqb, length-take, drop_of_length-le, length-take-le, take_all, take-suc, take-suc-set, drop-cons}
 use mathlib.Core.List.{List, [], ◌∷◌, ◌++◌, append-nil}
 use Rattle.std.proofs.Math.Nat.{sub-zero, min-eq_left, min-eq_right}
 use Rattle.std.proofs.lemmas.Bool.{lt-leb}

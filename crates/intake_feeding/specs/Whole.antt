@@ -3,7 +3,7 @@ use Rattle.std.specs.Prelude.{◌≡◌, refl, Bool, true, false, cond, List, []
 use Rattle.std.proofs.Common.{sym, ap, ap₂, ◌∙◌, append-nil, append_assoc, arith, le-leb, leb-true, leb-false, lt-ltb, length-append, take_all, length-take-le}
 use Rattle.std.proofs.lemmas.List.{take-append-le}
 use Rattle.meaning.specs.Results.{concat_map}
-use Rattle.reading_items.specs.Reading.{Reading, Reading.refused, reading}
+use Rattle.reading_items.specs.Reading.{Reading.refused, reading}
 use Rattle.compiler.specs.declared.Compilation.{Compilation}
 use Rattle.compiler.specs.declared.Compilation.TheVariants.{Rows, Refused}
 use Rattle.intake_report.specs.Lines.{lines_of, on_first}

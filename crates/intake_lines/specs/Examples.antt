@@ -1,5 +1,5 @@
 -- The outline's example, whole, and three more inputs, computed over the definition of the program's output.
-use Rattle.std.specs.Prelude.{◌≡◌, refl, List, [], ◌∷◌, ◌++◌}
+use Rattle.std.specs.Prelude.{◌≡◌, refl, [], ◌++◌}
 use Rattle.sets.specs.Sets.{bit, has, word_of, set_of, is_digit, is_word, is_dot}
 use Rattle.meaning.specs.Quoted.{bytes}
 use Rattle.meaning.specs.Text.{unset, fits, holds_at, opened, closed, cleared, wiped}

@@ -1,7 +1,6 @@
 -- Laws of the texts: how the digits of a number go on, that they read back and are few, and how spaced numbers go on.
 use Rattle.std.specs.Prelude.{◌≡◌, refl, Bool, true, false, cond, List, [], ◌∷◌, ◌++◌, ℕ, zero, suc, ◌+◌, ◌-◌, ◌*◌, ◌/◌, ◌%◌, ◌^◌, ◌≤◌, ◌<◌, ltb, ℤ, pos, negsuc, nat_abs, length, get_or, take}
 use Rattle.std.proofs.Common.{sym, ap, ◌∙◌, true≢false, append_assoc, append-nil, pow-suc, add-one, arith, lt-ltb, le-ltb, ltb-true, ltb-false, length-append, take-suc}
-use Rattle.std.proofs.lemmas.Bool.{false≢true}
 use Rattle.std.proofs.Math.ListN.{get_or-append}
 use Rattle.std.proofs.Math.Seq.{slice, slice_empty}
 use Rattle.std.specs.Int.Signed.{mag, lt_z}

@@ -1,7 +1,7 @@
 -- The lines of a text, and what the search for the end of a line answers.
-use Rattle.std.specs.Prelude.{◌≡◌, Bool, cond, length, take, drop}
+use Rattle.std.specs.Prelude.{◌≡◌, Bool, cond, length, take}
 use Rattle.std.proofs.Math.Path.{refl}
-use Rattle.std.proofs.Common.{sym, ap, ◌∙◌, arith, add-one}
+use Rattle.std.proofs.Common.{ap, ◌∙◌, arith, add-one}
 use Rattle.std.proofs.Math.Bool.{true, false}
 use mathlib.Core.List.{List, [], ◌∷◌}
 use Prim.Native.Nat.{ℕ, zero, suc, ◌+◌, ◌-◌, ◌≤◌, ◌<◌}

@@ -1,6 +1,6 @@
 -- What a write into a lent buffer leaves, and how two writes are one. Every function that writes is proved by these laws.
-use Rattle.std.specs.Prelude.{◌≡◌, refl, List, [], ◌∷◌, ◌++◌, ℕ, suc, ◌+◌, ◌≤◌, ◌<◌, length, get_or, take, drop, set}
-use Rattle.std.proofs.Common.{sym, ap, ◌∙◌, append-nil, append_assoc, add-zero, add-one, arith, length-append, length-drop, length-set, take-append-drop, length-take-le, take-suc, take_at, drop-drop}
+use Rattle.std.specs.Prelude.{◌≡◌, refl, List, [], ◌∷◌, ◌++◌, ℕ, ◌+◌, ◌≤◌, ◌<◌, length, get_or, take, drop, set}
+use Rattle.std.proofs.Common.{sym, ap, ◌∙◌, append-nil, append_assoc, add-zero, add-one, arith, length-append, length-drop, take-append-drop, length-take-le, take-suc, take_at, drop-drop}
 use Rattle.std.proofs.Math.Seq.{drop-append-add, append_snoc}
 use Rattle.std.proofs.lemmas.List.{set_split}
 

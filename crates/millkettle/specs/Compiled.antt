@@ -1,6 +1,6 @@
 -- What was compiled passes the check, and its code says the program of the pattern that became rows.
 use Rattle.std.specs.Prelude.{◌≡◌, refl, Bool, true, List, ◌++◌, ℕ, zero, suc, ◌≤◌, length, drop}
-use Rattle.std.proofs.Common.{sym, ap, subst, ◌∙◌, arith, ltb-false}
+use Rattle.std.proofs.Common.{sym, ap, ◌∙◌, arith, ltb-false}
 use Rattle.meaning.specs.Bytes.{Bytes}
 use Rattle.meaning.specs.Limits.{depth_limit, group_limit, row_limit, code_words}
 use Rattle.meaning.specs.Refusals as No
@@ -17,7 +17,7 @@ use Rattle.reading_items.specs.Reading.{Reading, Reading.pattern, Reading.refuse
 use Rattle.code_rows.specs.Emission.{rows_needed}
 use Rattle.compiler.specs.Compiling.{shaped, program_grounds, unwritten, answer_for, code_for, answer_by, code_left}
 use Rattle.compiler.specs.Compiling.{compilation, code_at}
-use Rattle.compiler.proofs.Laws.{Shaped, is_shaped}
+use Rattle.compiler.proofs.Laws.{is_shaped}
 use Rattle.compiler.specs.declared.Compilation.TheVariants.{Rows, Refused}
 
 -- Code that says the program of a pattern of n rows and g groups, and passes.

@@ -1,10 +1,10 @@
 -- How deep a text's parentheses are, by the records of its tree: a part and its items.
-use Rattle.std.specs.Prelude.{◌≡◌, refl, Bool, List, [], ◌∷◌, ℕ, ◌+◌, ◌-◌, ◌≤◌, ◌<◌, max, eqb}
+use Rattle.std.specs.Prelude.{◌≡◌, refl, Bool, List, [], ◌∷◌, ℕ, ◌+◌, ◌≤◌, ◌<◌, max, eqb}
 use Rattle.std.proofs.Common.{sym, ap, ap₂, ◌∙◌, zero-add, arith}
 use Rattle.std.proofs.Math.Nat.{max-zero}
 use Rattle.meaning.specs.Node.{Node, Node.empty, Node.bset, Node.assert, Node.group, Node.seq, Node.alt, Node.many}
 use Rattle.meaning.specs.Flat.{Kind.sequence, Kind.alternation, parts, by_parts}
-use Rattle.table.specs.Table.{records, assertion_kind, group_kind, sequence_kind}
+use Rattle.table.specs.Table.{assertion_kind, group_kind, sequence_kind}
 use Rattle.table.specs.Table.{alternation_kind, quantifier_kind, bit_of}
 use Rattle.table.specs.Laws.{inner, kind_of}
 use Rattle.showing.specs.Text.{loose, depth}

@@ -1,12 +1,11 @@
 -- The text of a tree has the fewest parentheses that the grammar needs: no derivation of the tree, whatever it is derived from,
 -- opens fewer, and none is shallower.
-use Rattle.std.specs.Prelude.{◌≡◌, refl, List, [], ◌∷◌, ◌++◌, ℕ, zero, suc, ◌+◌, ◌≤◌, max}
-use Rattle.std.proofs.Common.{sym, ap, ◌∙◌}
+use Rattle.std.specs.Prelude.{◌≡◌, refl, List, [], ◌∷◌, ◌++◌, ℕ, suc, ◌+◌, ◌≤◌, max}
 use native.Mathlib.Omega.{arith}
 use Rattle.meaning.specs.Node.{Node, Node.empty, Node.bset, Node.assert, Node.group, Node.seq, Node.alt, Node.many}
 use Rattle.meaning.specs.Flat.{Kind, parts, join, fold, Adds, adds_link, adds_parts}
 use Rattle.table.specs.Table.{bit_of}
-use Rattle.reading_grammar.specs.Grammar.{Sort, Rule, Derives}
+use Rattle.reading_grammar.specs.Grammar.{Sort, Rule}
 use Rattle.showing.specs.Text.{loose, bound, depth}
 
 -- How many parentheses the text of a tree opens.

@@ -1,7 +1,7 @@
 -- No text that is shown begins with a byte that begins a quantifier.
-use Rattle.std.specs.Prelude.{◌≡◌, Bool, true, false, ◌||◌, ℕ, ◌+◌, ◌≤◌, ◌<◌, eqb, get_or}
+use Rattle.std.specs.Prelude.{◌≡◌, Bool, true, false, ◌||◌, ℕ, ◌+◌, eqb}
 use Rattle.std.proofs.Math.Path.{refl, subst}
-use Rattle.std.proofs.Common.{sym, ap, ◌∙◌, add-zero, arith, length-append}
+use Rattle.std.proofs.Common.{ap, ◌∙◌, add-zero, arith, length-append}
 use mathlib.Core.List.{List, [], ◌∷◌, ◌++◌}
 use Rattle.std.proofs.Math.ListN.{length}
 use Rattle.meaning.specs.Node.{Node, Node.empty, Node.bset, Node.assert, Node.group, Node.seq, Node.alt, Node.many, Proper}
@@ -12,7 +12,7 @@ use Rattle.reading_atoms.specs.Places.{neither}
 use Rattle.reading_grammar.specs.Atoms.{Is, Class, EscapedSet}
 use Rattle.reading_grammar.specs.EscapesComplete.{escaped_at}
 use Rattle.reading_grammar.specs.Grammar.{special, Assertion, SetAtom}
-use Rattle.showing_spelling.specs.Spelling.{set_text, assertion_text, quantifier_text}
+use Rattle.showing_spelling.specs.Spelling.{quantifier_text}
 use Rattle.showing_spelling.specs.Texts.{At, at_first, at_front, at_back}
 use Rattle.showing_spelling.specs.Sets.{set_read}
 use Rattle.showing_spelling.specs.Counts.{assertion_read}

@@ -1,8 +1,7 @@
 -- No byte of a text that is shown is above 7F.
-use Rattle.std.specs.Prelude.{◌≡◌, refl, Bool, true, false, cond, ◌&&◌, ◌||◌, not, List, [], ◌∷◌, ◌++◌, ℕ, zero, suc, ◌+◌, ◌-◌, ◌/◌, ◌%◌, ◌≤◌, ◌<◌, eqb, leb, ltb, length, get_or}
-use Rattle.std.proofs.Common.{sym, ap, subst, ◌∙◌, arith, leb-true, ltb-true, leb-false, eqb-true}
-use Rattle.std.proofs.Math.Option.{Option}
-use Rattle.sets.specs.Sets.{has, set_of, same_bytes, below, between, is_word, is_digit, in_escape}
+use Rattle.std.specs.Prelude.{◌≡◌, refl, Bool, true, false, ◌&&◌, List, [], ◌∷◌, ◌++◌, ℕ, zero, suc, ◌+◌, ◌-◌, ◌/◌, ◌%◌, ◌≤◌, ◌<◌, eqb, leb, ltb, length, get_or}
+use Rattle.std.proofs.Common.{arith, leb-true, ltb-true, leb-false, eqb-true}
+use Rattle.sets.specs.Sets.{has, same_bytes, below}
 use Rattle.sets.specs.Bits.{below_at}
 use Rattle.meaning.specs.Quoted.{bytes}
 use Rattle.meaning.specs.Tests.{and_true, by_test}
@@ -12,12 +11,12 @@ use Rattle.meaning.specs.Node.{Node, Node.empty, Node.bset, Node.assert, Node.gr
 use Rattle.table.specs.Table.{maximum}
 use Rattle.intake_report.specs.Texts.{decimal, digit}
 use Rattle.intake_report.specs.Laws.{decimal_one, decimal_more, decimal_ind}
-use Rattle.reading_atoms.specs.Chars.{backslash, caret, question, open_paren, close_paren, open_bracket, close_bracket, open_brace, close_brace, hyphen, comma, colon, bar, dot, star, plus}
+use Rattle.reading_atoms.specs.Chars.{question, close_paren, close_bracket, close_brace, hyphen, bar}
 use Rattle.reading_items.specs.Reading.{dot_set, literal_set}
 use Rattle.reading_grammar.specs.Grammar.{special}
 use Rattle.showing_spelling.specs.Spelling.{guarded, byte_text, run_text, runs_text, runs_of, lacking, escape_letter, escape_text, words_in, spaces_in}
-use Rattle.showing_spelling.specs.Spelling.{named_text, inside_text, class_text, shorter, others, either_text, best_text, escape_of, lowest}
-use Rattle.showing_spelling.specs.Spelling.{plain_text, set_text, assertion_text, most_text, braces_text, counts_text, quantifier_text}
+use Rattle.showing_spelling.specs.Spelling.{named_text, inside_text, class_text, others, either_text, best_text, escape_of, lowest}
+use Rattle.showing_spelling.specs.Spelling.{plain_text, set_text, assertion_text, most_text, counts_text, quantifier_text}
 use Rattle.showing.specs.Text.{around, loose, bound, text}
 
 -- Each byte is at most 7F.

@@ -1,36 +1,34 @@
 -- What is shown, read with room enough, gives the same table but for zeros at its end; and that is shown as the same bytes.
-use Rattle.std.specs.Prelude.{◌≡◌, Bool, true, cond, ◌||◌, ◌⊎◌, List, [], ◌∷◌, ◌++◌, ℕ, zero, suc, ◌+◌, ◌-◌, ◌*◌, ◌≤◌, ◌<◌, ltb, length, get_or, replicate}
+use Rattle.std.specs.Prelude.{◌≡◌, Bool, true, cond, ◌||◌, List, ◌++◌, ℕ, ◌+◌, ◌-◌, ◌*◌, ◌≤◌, ◌<◌, ltb, length, get_or, replicate}
 use Rattle.std.proofs.Math.Path.{refl, sym, ap, ap₂}
-use Rattle.std.proofs.Common.{subst, ◌∙◌, inl, inr, append-nil, arith, length-append}
+use Rattle.std.proofs.Common.{subst, ◌∙◌, arith, length-append}
 use Rattle.std.proofs.Math.Bool.{false}
-use Rattle.std.proofs.lemmas.Bool.{false≢true}
 use Rattle.std.proofs.Math.Option.{Option, none, some}
 use Rattle.std.proofs.Math.ListN.{take, drop, get_or-eq_default}
 use Rattle.std.proofs.lemmas.List.{length-replicate}
 use Rattle.std.proofs.Math.Seq.{take_at}
-use borrow.Author.Tests.{ltb-true, ltb-false, le-ltb}
+use borrow.Author.Tests.{ltb-false, le-ltb}
 use Rattle.std.proofs.Math.Decide.{dec_lt}
 use Rattle.meaning.specs.Bytes.{Bytes}
-use Rattle.meaning.specs.Limits.{pattern_limit, depth_limit, row_limit, least_rows, table_words, code_words}
+use Rattle.meaning.specs.Limits.{pattern_limit, depth_limit, row_limit, table_words, code_words}
 use Rattle.meaning.specs.Refusals as No
 use Rattle.meaning.specs.Node.{Node, hi, Proper}
-use Rattle.meaning.specs.Flat.{Kind, parts, join, join_parts}
-use Rattle.machine.specs.Layout.{size_of}
+use Rattle.meaning.specs.Flat.{Kind, parts, join_parts}
 use Rattle.code_rows.specs.Emission.{rows_needed}
 use Rattle.table.specs.Table.{record_words, record_count, records}
 use Rattle.table.specs.Laws.{long}
-use Rattle.reading_atoms.specs.Chars.{no_byte, byte_at, is_quantifier}
+use Rattle.reading_atoms.specs.Chars.{no_byte, is_quantifier}
 use Rattle.reading_atoms.specs.Places.{neither, byte_there}
-use Rattle.reading_items.specs.Reading.{Reading, Reading.pattern, reading, table_by}
+use Rattle.reading_items.specs.Reading.{Reading.pattern, reading}
 use Rattle.reading_items.specs.Read.{what_is_read}
 use Rattle.reading_grammar.specs.Grammar.{Sort, Rule, Derives}
 use Rattle.reading_grammar.proofs.Complete.{complete}
 use Rattle.tidying.specs.Held.{table_of}
-use Rattle.compiler.specs.Compiling.{plain, Compiles, compilation, table_at}
+use Rattle.compiler.specs.Compiling.{plain, compilation, table_at}
 use Rattle.compiler.specs.declared.Compilation.TheVariants.{Rows}
 use Rattle.showing_spelling.specs.Texts.{At}
 use Rattle.showing_form.specs.Form.{OfForm, form_of}
-use Rattle.showing_form.specs.Exact.{form_some, some_form, form_stands}
+use Rattle.showing_form.specs.Exact.{form_some, some_form}
 use Rattle.showing.specs.Text.{text, depth}
 use Rattle.showing.specs.Low.{text_low, low_at}
 use Rattle.showing.specs.Firsts.{Free}

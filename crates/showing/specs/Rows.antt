@@ -1,8 +1,8 @@
 -- The text of a tree by its records: what opens a part, its items one after the other, and what closes it.
-use Rattle.std.specs.Prelude.{◌≡◌, refl, Bool, true, false, cond, not, ◌||◌, ◌&&◌, List, [], ◌∷◌, ◌++◌, ℕ, zero, suc, ◌+◌, ◌≤◌, ◌<◌, eqb, leb, length, get_or}
-use Rattle.std.proofs.Common.{sym, ap, ap₂, subst, ◌∙◌, append-nil, append_assoc, arith}
+use Rattle.std.specs.Prelude.{◌≡◌, refl, Bool, true, false, cond, not, ◌||◌, ◌&&◌, List, [], ◌∷◌, ◌++◌, ℕ, ◌≤◌, ◌<◌, eqb, length, get_or}
+use Rattle.std.proofs.Common.{sym, ap, ap₂, ◌∙◌, append-nil, arith}
 use Rattle.meaning.specs.Node.{Node, Node.empty, Node.bset, Node.assert, Node.group, Node.seq, Node.alt, Node.many}
-use Rattle.meaning.specs.Flat.{Kind, Kind.sequence, Kind.alternation, Not, parts, pair, by_parts}
+use Rattle.meaning.specs.Flat.{Kind.sequence, Kind.alternation, parts, by_parts}
 use Rattle.table.specs.Table.{empty_kind, set_kind, assertion_kind, group_kind, sequence_kind, alternation_kind, quantifier_kind, maximum, bit_of}
 use Rattle.table.specs.Laws.{inner, kind_of, operand_of, last_of}
 use Rattle.reading_atoms.specs.Chars.{open_paren, close_paren, bar}

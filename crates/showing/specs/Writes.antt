@@ -1,10 +1,10 @@
 -- What is asked and answered where a part is written: whatever the part is whose records end there.
-use Rattle.std.specs.Prelude.{◌≡◌, refl, Bool, true, false, cond, not, ◌&&◌, List, [], ◌∷◌, ◌++◌, ℕ, ◌+◌, ◌-◌, ◌*◌, ◌≤◌, ◌<◌, eqb, length, get_or, take, drop}
+use Rattle.std.specs.Prelude.{◌≡◌, refl, Bool, true, false, cond, not, ◌&&◌, List, [], ◌∷◌, ◌++◌, ℕ, ◌+◌, ◌-◌, ◌*◌, ◌≤◌, ◌<◌, eqb, length, take, drop}
 use Rattle.std.proofs.Common.{sym, ap, ap₂, subst, ◌∙◌, append-nil, append_assoc, arith, length-append, eq-eqb, ne_eqb}
 use Rattle.meaning.specs.Limits.{last_assertion}
 use Rattle.meaning.specs.Node.{Node, Node.empty, Node.bset, Node.assert, Node.group, Node.seq, Node.alt, Node.many, Proper}
 use Rattle.meaning.specs.Results.{concat_map}
-use Rattle.table.specs.Table.{record_words, kind_word, operand_word, items_word, records_word, set_word, word_of, record_count, records, assertion_kind, alternation_kind}
+use Rattle.table.specs.Table.{record_words, kind_word, operand_word, items_word, records_word, set_word, word_of, records, assertion_kind, alternation_kind}
 use Rattle.table.specs.Laws.{inner, kind_of, operand_of, last_of}
 use Rattle.table.specs.Stands.{Ends, SomePart, Series}
 use Rattle.table.specs.Roots.{some_records, few_records_lem, root_kind, root_operand, root_items, root_records, root_set, inside, some_last, last_ends, shorter}

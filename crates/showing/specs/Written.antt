@@ -1,22 +1,22 @@
 -- What is written derives: wherever the text of a flat, proper tree with its groups in order stands, within the depth, and no
 -- quantifier begins behind it, the grammar's rules derive the tree's parts.
-use Rattle.std.specs.Prelude.{◌≡◌, refl, Bool, false, cond, get_or}
+use Rattle.std.specs.Prelude.{◌≡◌, refl, Bool}
 use Rattle.std.proofs.Common.{sym, ◌∙◌, add-one}
 use Rattle.std.proofs.Math.Path.{ap, subst}
 use Rattle.std.proofs.Math.Bool.{true, false≢true}
 use Rattle.std.proofs.Math.Option.{Option}
-use mathlib.Core.List.{List, [], ◌∷◌, ◌++◌, append-nil, append_assoc}
-use Prim.Native.Nat.{ℕ, zero, suc, ◌+◌, ◌≤◌, ◌<◌, max}
+use mathlib.Core.List.{List, [], ◌∷◌, ◌++◌, append_assoc}
+use Prim.Native.Nat.{ℕ, zero, suc, ◌+◌, ◌≤◌, ◌<◌}
 use native.Mathlib.Omega.{arith}
 use Rattle.std.proofs.Math.ListN.{length, length-append}
 use Rattle.meaning.specs.Limits.{group_limit}
 use Rattle.meaning.specs.Node.{Node, Node.empty, Node.bset, Node.assert, Node.group, Node.seq, Node.alt, Node.many, Proper}
-use Rattle.meaning.specs.Flat.{Kind, parts, join, join_parts, parts_alone, Not, Flat}
+use Rattle.meaning.specs.Flat.{Kind, parts, join, join_parts, parts_alone, Flat}
 use Rattle.meaning.specs.Numbering.{Numbers, forwards}
 use Rattle.table.specs.Table.{maximum, bit_of}
-use Rattle.reading_atoms.specs.Chars.{byte_at, question, open_paren, close_paren, bar, colon, is_quantifier}
+use Rattle.reading_atoms.specs.Chars.{question, open_paren, close_paren, bar, colon, is_quantifier}
 use Rattle.reading_grammar.specs.Atoms.{Is}
-use Rattle.reading_grammar.specs.Grammar.{Sort, Sort.alternatives, Sort.sequence, Sort.item, Sort.atom, Rule}
+use Rattle.reading_grammar.specs.Grammar.{Sort.alternatives, Sort.sequence, Sort.atom, Rule}
 use Rattle.showing_spelling.specs.Spelling.{set_text, assertion_text, quantifier_text}
 use Rattle.showing_spelling.specs.Texts.{At, at_first, at_front, at_back}
 use Rattle.showing_spelling.specs.Sets.{set_read}

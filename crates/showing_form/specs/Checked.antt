@@ -1,30 +1,26 @@
 -- The check in one pass: what it is at each step, and that its answer is exact.
-use Rattle.std.specs.Prelude.{◌≡◌, refl, Bool, true, false, cond, not, ◌||◌, ◌&&◌, ◌⊎◌, List, [], ◌∷◌, ◌++◌, ℕ, zero, suc, ◌+◌, ◌-◌, ◌*◌, ◌≤◌, ◌<◌, min, eqb, leb, length, get_or, take, drop, replicate}
-use Rattle.std.proofs.Common.{sym, ap, ap₂, subst, ◌∙◌, true≢false, inl, inr, append-nil, arith, take-append-drop, length-drop, ext_get_or, get_or-drop, eqb-true, eq-eqb, ne_eqb, leb-true, le-leb}
+use Rattle.std.specs.Prelude.{◌≡◌, refl, Bool, true, false, ◌||◌, ◌&&◌, List, [], ◌∷◌, ◌++◌, ℕ, suc, ◌+◌, ◌-◌, ◌*◌, ◌≤◌, ◌<◌, min, eqb, leb, length, get_or, take, drop, replicate}
+use Rattle.std.proofs.Common.{sym, ap, ap₂, subst, ◌∙◌, true≢false, inl, inr, append-nil, arith, take-append-drop, length-drop, ext_get_or, get_or-drop, eqb-true, eq-eqb, leb-true, le-leb}
 use Rattle.std.proofs.Math.Bool.{or-true}
 use Rattle.std.proofs.Math.Option.{Option, none, some}
 use Rattle.std.proofs.Math.Decide.{dec_lt}
 use Rattle.std.proofs.lemmas.List.{length-replicate, get_or-replicate}
 use Rattle.std.proofs.lemmas.Bool.{eqb-false}
 use Rattle.meaning.specs.Limits.{group_limit, row_limit, least_rows}
-use Rattle.meaning.specs.Node.{Node, lo, hi, Proper}
+use Rattle.meaning.specs.Node.{Node, lo, hi}
 use Rattle.meaning.specs.Numbering.{Numbers, Range, range}
 use Rattle.meaning.specs.Tests.{and_true}
-use Rattle.meaning.specs.All.{All}
-use Rattle.meaning.specs.Results.{concat_map}
 use Rattle.machine.specs.Layout.{size_of}
 use Rattle.table.specs.Table.{record_words, kind_word, size_word, lowest_word, highest_word, word_of, size_cap, record_count, records}
-use Rattle.table.specs.Laws.{long, inner_count}
+use Rattle.table.specs.Laws.{long}
 use Rattle.table.specs.Derived.{record_limit}
 use Rattle.table.specs.Stands.{Stands, Ends}
 use Rattle.table.specs.Roots.{stands_long, some_records, few_records_lem, root_size, root_groups}
-use Rattle.reading_atoms.specs.Places.{either}
-use Rattle.tidying.specs.Held.{table_of}
 use Rattle.showing_form.specs.Form.{OfForm, form_of}
 use Rattle.showing_form.specs.Exact.{form_stands, form_some, no_form_lem, behind_zero}
 use Rattle.showing_form.specs.Parts.{Good}
 use Rattle.showing_form.specs.Order.{no_groups, with_groups}
-use Rattle.showing_form.specs.Stack.{StackIs, SomeStack, On, Closes, same_parts, all_proper, form_on}
+use Rattle.showing_form.specs.Stack.{StackIs, SomeStack, Closes, same_parts, all_proper, form_on}
 
 -- How many records a table of the form has; 0 for any other table.
 abbrev pub records_of : Option Node → ℕ

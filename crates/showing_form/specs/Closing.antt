@@ -1,32 +1,29 @@
 -- A record whose words pass closes parts, and one that closes parts passes: each test of the check in one pass, both ways.
-use Rattle.std.specs.Prelude.{◌≡◌, refl, Bool, true, false, cond, not, ◌||◌, ◌&&◌, ◌⊎◌, List, [], ◌∷◌, ◌++◌, ℕ, zero, suc, ◌+◌, ◌-◌, ◌*◌, ◌≤◌, ◌<◌, min, eqb, length, get_or, take, drop}
-use Rattle.std.proofs.Common.{sym, ap, ap₂, subst, ◌∙◌, true≢false, inl, inr, append_assoc, append-nil, arith, length-append, length-drop, length-take, take-append-drop, take_at, drop_at, drop-drop, take-add, get_or-take, get_or-drop, length-take-le, eqb-true, eq-eqb, ne_eqb}
+use Rattle.std.specs.Prelude.{◌≡◌, refl, true, false, not, ◌&&◌, ◌⊎◌, List, [], ◌∷◌, ◌++◌, ℕ, suc, ◌+◌, ◌-◌, ◌*◌, ◌≤◌, ◌<◌, min, eqb, length, get_or, take, drop}
+use Rattle.std.proofs.Common.{sym, ap, ap₂, subst, ◌∙◌, true≢false, inl, inr, append_assoc, append-nil, arith, length-append, length-drop, length-take, take-append-drop, drop-drop, take-add, get_or-take, get_or-drop, length-take-le, eqb-true, eq-eqb, ne_eqb}
 use Rattle.std.proofs.Math.Bool.{or-true}
-use Rattle.std.proofs.Math.Option.{Option}
-use Rattle.std.proofs.lemmas.Bool.{eqb-false}
 use Rattle.sets.specs.Sets.{Formed}
 use Rattle.sets.specs.Laws.{one_by_one}
-use Rattle.meaning.specs.Node.{Node, Node.empty, Node.bset, Node.assert, Node.group, Node.seq, Node.alt, Node.many, lo, hi, Proper}
-use Rattle.meaning.specs.Flat.{Kind, Kind.sequence, Kind.alternation, Not, Flat, parts}
-use Rattle.meaning.specs.Numbering.{Numbers}
+use Rattle.meaning.specs.Node.{Node, Node.empty, Node.bset, Node.assert, Node.group, Node.seq, Node.alt, Node.many, lo, hi}
+use Rattle.meaning.specs.Flat.{Kind.sequence, Kind.alternation, Not, parts}
 use Rattle.meaning.specs.Tests.{and_true}
 use Rattle.meaning.specs.All.{All, all_imp, all_append, all_left, all_right}
 use Rattle.meaning.specs.Results.{concat_map}
 use Rattle.machine.specs.Layout.{size_of}
 use Rattle.table.specs.Table.{record_words, kind_word, operand_word, records_word, items_word, size_word, lowest_word, highest_word, set_word}
-use Rattle.table.specs.Table.{word_of, size_cap, record_count, record_of, own_record, records, no_set, group_kind, sequence_kind, alternation_kind}
-use Rattle.table.specs.Laws.{inner, kind_of, operand_of, last_of, own, own_long, inner_words, records_append, long_all, parts_flat}
+use Rattle.table.specs.Table.{word_of, size_cap, record_count, own_record, records, no_set, group_kind, sequence_kind, alternation_kind}
+use Rattle.table.specs.Laws.{inner, kind_of, operand_of, last_of, own, inner_words, records_append, parts_flat}
 use Rattle.table.specs.Derived.{record_limit, derived_of}
 use Rattle.table.specs.Stands.{Stands, Ends, Series, Made, SomeMade, Derives}
-use Rattle.table.specs.Roots.{stands_long, root_word, root_derived, root_kind, root_operand, root_items, root_set, inside}
+use Rattle.table.specs.Roots.{root_word, root_derived, root_kind, root_operand, root_items, root_set, inside}
 use Rattle.table.specs.declared.Derived.{Derived}
-use Rattle.reading_items.specs.Parts.{NumbersIn, numbers_parts}
+use Rattle.reading_items.specs.Parts.{numbers_parts}
 use Rattle.showing_form.specs.Exact.{some_kind}
 use Rattle.showing_form.specs.Parts.{Good}
 use Rattle.showing_form.specs.Order.{next_of, follows, in_order, order_complete}
 use Rattle.showing_form.specs.Shapes.{shaped, shape_of, barred, unlike, opens}
 use Rattle.showing_form.specs.Builds.{Built, builds}
-use Rattle.showing_form.specs.Stack.{StackIs, SomeStack, On, Closes, walk_ok, SomeItems, orderly, Walks, derived_told, all_proper}
+use Rattle.showing_form.specs.Stack.{StackIs, SomeStack, On, walk_ok, SomeItems, orderly, Walks, derived_told, all_proper}
 
 -- The walk over items, taken apart and put together.
 walk_split : (b : ℕ) (m : List Node) → walk_ok b m ≡ true → (unlike b m ≡ true) × (in_order m ≡ true)

@@ -1,5 +1,5 @@
 -- A table is of the form exactly if `form_of` gives its tree; and there is one tree at most.
-use Rattle.std.specs.Prelude.{◌≡◌, refl, Bool, true, false, ◌↔◌, List, [], ◌∷◌, ◌++◌, eqb, get_or, take, replicate}
+use Rattle.std.specs.Prelude.{◌≡◌, refl, ◌↔◌, List, [], ◌∷◌, get_or, take, replicate}
 use Rattle.std.proofs.Common.{sym, subst, ◌∙◌, take_at, get_or-append-add, eq-eqb, ne_eqb}
 use Rattle.std.proofs.Math.Path.{ap}
 use Rattle.std.proofs.Math.Option.{Option, none, some}
@@ -8,10 +8,10 @@ use native.Mathlib.Omega.{arith}
 use Rattle.std.proofs.Math.Decide.{dec_lt}
 use Rattle.std.proofs.Math.ListN.{length, length-append, length-replicate, get_or-eq_default}
 use Rattle.std.proofs.lemmas.List.{get_or-replicate}
-use Rattle.meaning.specs.Node.{Node, Node.empty, Node.bset, Node.assert, Node.group, Node.seq, Node.alt, Node.many, Proper}
+use Rattle.meaning.specs.Node.{Node, Node.empty, Node.bset, Node.assert, Node.group, Node.seq, Node.alt, Node.many}
 use Rattle.table.specs.Table.{record_words, kind_word, word_of, record_count, records}
 use Rattle.table.specs.Laws.{kind_of, long}
-use Rattle.table.specs.Stands.{Stands, Ends}
+use Rattle.table.specs.Stands.{Stands}
 use Rattle.table.specs.Roots.{root_kind}
 use Rattle.tidying_shapes.specs.Tokens.{tokens_of}
 use Rattle.tidying_shapes.specs.Skeleton.{skeleton}

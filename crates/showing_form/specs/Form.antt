@@ -1,7 +1,7 @@
 -- The form of a table (docs/TABLE.md): the records of a tree, and zeros behind them, with all that readings and tidyings keep.
 use Rattle.std.specs.Prelude.{◌≡◌, cond, ℕ, zero, suc, ◌+◌, ◌*◌, ◌≤◌, ◌<◌, eqb, length, get_or}
 use Rattle.std.proofs.Math.Option.{Option, none, some}
-use mathlib.Core.List.{List, [], ◌∷◌, List-discrete}
+use mathlib.Core.List.{List, [], List-discrete}
 use Rattle.std.proofs.Common.{arith}
 use Rattle.std.proofs.Math.Decide.{ℕ_discrete, dec_le, dec_lt}
 use Rattle.meaning.specs.Limits.{group_limit, row_limit, least_rows}

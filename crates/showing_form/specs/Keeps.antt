@@ -1,11 +1,11 @@
 -- Every reading that has rows, and every tidying of one, is of the form.
-use Rattle.std.specs.Prelude.{◌≡◌, refl, ◌⊎◌, List, ◌++◌, ℕ, zero, suc, ◌+◌, ◌-◌, ◌*◌, ◌≤◌, ◌<◌, length, replicate, Bool, true, false}
+use Rattle.std.specs.Prelude.{◌≡◌, refl, List, ℕ, zero, suc, ◌+◌, ◌-◌, ◌*◌, ◌≤◌, length, replicate, Bool, true, false}
 use Rattle.std.proofs.Common.{sym, ap, subst, ◌∙◌, inl, inr, arith, length-append, take_all, ltb-false}
 use Rattle.std.proofs.lemmas.List.{length-replicate}
 use Rattle.meaning.specs.Bytes.{Bytes}
 use Rattle.meaning.specs.Grounds.{none_holds}
 use Rattle.meaning.specs.Refusals as No
-use Rattle.meaning.specs.Limits.{pattern_limit, table_words, depth_limit, group_limit, row_limit, least_rows}
+use Rattle.meaning.specs.Limits.{table_words, depth_limit, row_limit, least_rows}
 use Rattle.meaning.specs.Node.{Node, lo, hi, Proper}
 use Rattle.meaning.specs.Flat.{Flat}
 use Rattle.meaning.specs.Numbering.{Numbers, Range, range}
@@ -13,7 +13,6 @@ use Rattle.machine.specs.Layout.{size_of}
 use Rattle.table.specs.Table.{record_words, record_count, records}
 use Rattle.table.specs.Laws.{long}
 use Rattle.table.specs.Stands.{Stands}
-use Rattle.table.specs.Derived.{record_limit}
 use Rattle.reading_items.specs.Facts.{fair_proper}
 use Rattle.reading_items.specs.Kept.{Read}
 use Rattle.reading_items.specs.Read.{atom_laws, what_is_read}

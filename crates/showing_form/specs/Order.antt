@@ -1,14 +1,12 @@
 -- Groups of neighbours follow on: what is tested of parts in a row, by their lowest and highest groups, from the last one back.
-use Rattle.std.specs.Prelude.{◌≡◌, refl, Bool, true, false, cond, not, ◌||◌, ◌&&◌, ◌⊎◌, List, [], ◌∷◌, ℕ, zero, suc, ◌+◌, ◌-◌, ◌≤◌, ◌<◌, max, eqb}
-use Rattle.std.proofs.Common.{sym, ap, subst, ◌∙◌, true≢false, inl, inr, arith, eqb-true, eq-eqb, ne_eqb}
+use Rattle.std.specs.Prelude.{◌≡◌, refl, Bool, true, false, cond, ◌||◌, ◌&&◌, ◌⊎◌, List, [], ◌∷◌, ℕ, suc, ◌-◌, ◌≤◌, eqb}
+use Rattle.std.proofs.Common.{sym, subst, inl, inr, arith, eqb-true, eq-eqb, ne_eqb}
 use Rattle.std.proofs.Math.Bool.{or-true}
-use Rattle.std.proofs.Math.Option.{Option}
 use Rattle.std.proofs.lemmas.Bool.{eqb-false}
 use Rattle.meaning.specs.Node.{Node, Node.empty, Node.bset, Node.assert, Node.group, Node.seq, Node.alt, Node.many, lo, hi}
 use Rattle.meaning.specs.Numbering.{Numbers, Range, range, forwards}
 use Rattle.meaning.specs.Tests.{and_true}
 use Rattle.meaning.specs.All.{All}
-use Rattle.reading_atoms.specs.Places.{either}
 use Rattle.reading_items.specs.Parts.{NumbersIn}
 use Rattle.showing_form.specs.Parts.{Good}
 

@@ -1,15 +1,15 @@
 -- The part whose own record has a number: it is closed on a stack of parts that are complete before it.
-use Rattle.std.specs.Prelude.{◌≡◌, refl, Bool, List, [], ◌∷◌, ◌++◌, ℕ, zero, suc, ◌+◌, ◌-◌, ◌*◌, ◌≤◌, ◌<◌, length}
-use Rattle.std.proofs.Common.{sym, ap, ap₂, subst, ◌∙◌, append_assoc, append-nil, arith, length-append}
+use Rattle.std.specs.Prelude.{◌≡◌, refl, Bool, List, [], ◌∷◌, ◌++◌, ℕ, suc, ◌+◌, ◌-◌, ◌≤◌, ◌<◌}
+use Rattle.std.proofs.Common.{sym, ap, ◌∙◌, append_assoc, append-nil, arith}
 use Rattle.std.proofs.Math.Option.{Option, none, some}
 use Rattle.std.proofs.Math.Decide.{dec_lt}
 use Rattle.meaning.specs.Node.{Node, Node.empty, Node.bset, Node.assert, Node.group, Node.seq, Node.alt, Node.many, Proper}
-use Rattle.meaning.specs.Flat.{Kind, Kind.sequence, Kind.alternation, pair, Flat, parts, flat_spreads, proper_spreads}
+use Rattle.meaning.specs.Flat.{Kind, Kind.sequence, Kind.alternation, pair, Flat, flat_spreads, proper_spreads}
 use Rattle.meaning.specs.Numbering.{Numbers, forwards}
 use Rattle.meaning.specs.All.{All}
 use Rattle.meaning.specs.Results.{concat_map}
-use Rattle.table.specs.Table.{record_words, unless, records_in, record_count, own_record, words_in, records}
-use Rattle.table.specs.Laws.{inner, own_long, long, long_all, row_words_lem, row_count, count_all, records_append, count_append, inner_words}
+use Rattle.table.specs.Table.{unless, records_in, record_count, own_record, words_in, records}
+use Rattle.table.specs.Laws.{inner, row_count, count_all, inner_words}
 use Rattle.table.specs.Laws.{inner_proper}
 
 -- What every part of a tree of the form is.

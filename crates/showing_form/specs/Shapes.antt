@@ -1,24 +1,16 @@
 -- What is tested of a record's own words, by its kind; a part that they are of, and that every part passes.
-use Rattle.std.specs.Prelude.{◌≡◌, refl, Bool, true, false, cond, not, ◌||◌, ◌&&◌, ◌⊎◌, List, [], ◌∷◌, ℕ, zero, suc, ◌+◌, ◌-◌, ◌≤◌, ◌<◌, eqb, leb, length, get_or, replicate}
-use Rattle.std.proofs.Common.{sym, ap, subst, ◌∙◌, true≢false, inl, inr, arith, eqb-true, eq-eqb, ne_eqb, leb-true, le-leb}
+use Rattle.std.specs.Prelude.{◌≡◌, refl, Bool, true, false, cond, not, ◌||◌, ◌&&◌, List, [], ◌∷◌, ℕ, suc, ◌+◌, ◌-◌, ◌≤◌, eqb, leb, length, get_or, replicate}
+use Rattle.std.proofs.Common.{arith, le-leb}
 use Rattle.std.proofs.Math.Bool.{or-true}
-use Rattle.std.proofs.lemmas.Bool.{false≢true, eqb-false, not-true}
-use Rattle.std.proofs.Math.Option.{Option, none, some}
-use Rattle.sets.specs.Sets.{Formed, same_bytes}
-use Rattle.sets.specs.Laws.{same_refl, same_words}
+use Rattle.std.proofs.Math.Option.{none, some}
+use Rattle.sets.specs.Sets.{same_bytes}
+use Rattle.sets.specs.Laws.{same_refl}
 use Rattle.meaning.specs.Limits.{count_limit, no_maximum, last_assertion}
-use Rattle.meaning.specs.Node.{Node, Node.empty, Node.bset, Node.assert, Node.group, Node.seq, Node.alt, Node.many, Within, Proper}
-use Rattle.meaning.specs.Flat.{Kind, Kind.sequence, Kind.alternation, Not, Part, parts, link, by_parts, Flat, flat_spreads, spreads_link}
-use Rattle.meaning.specs.Numbering.{Numbers}
-use Rattle.meaning.specs.Tests.{and_true}
-use Rattle.meaning.specs.All.{All, all_imp}
+use Rattle.meaning.specs.Node.{Node, Node.empty, Node.bset, Node.assert, Node.group, Node.seq, Node.alt, Node.many, Proper}
+use Rattle.meaning.specs.Flat.{Kind, Kind.sequence, Kind.alternation, parts, by_parts}
 use Rattle.table.specs.Table.{empty_kind, set_kind, assertion_kind, group_kind, sequence_kind, alternation_kind, quantifier_kind, no_set}
-use Rattle.table.specs.Table.{maximum, bit_of}
-use Rattle.table.specs.Laws.{inner, kind_of, operand_of, last_of, inner_link, proper_link}
-use Rattle.reading_atoms.specs.Places.{either}
-use Rattle.reading_items.specs.Parts.{numbers_join}
-use Rattle.showing_form.specs.Parts.{Good}
-use Rattle.showing_form.specs.Order.{next_of, in_order, order_sound}
+use Rattle.table.specs.Table.{bit_of}
+use Rattle.table.specs.Laws.{inner, kind_of, operand_of, last_of}
 
 -- The last words of a quantifier: minimum, maximum and laziness within the limits, and zeros.
 abbrev pub counts_fit : List ℕ → Bool

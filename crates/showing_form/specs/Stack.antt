@@ -1,34 +1,26 @@
 -- The parts complete below a record, the part that a record closes, and the contracts of the check in one pass.
-use Rattle.std.specs.Prelude.{◌≡◌, refl, Bool, true, false, cond, not, ◌||◌, ◌&&◌, ◌⊎◌, List, [], ◌∷◌, ◌++◌, ℕ, zero, suc, ◌+◌, ◌-◌, ◌*◌, ◌≤◌, ◌<◌, min, eqb, leb, length, get_or, take, drop, replicate}
-use Rattle.std.proofs.Common.{sym, ap, ap₂, subst, ◌∙◌, inl, inr, append_assoc, append-nil, arith, length-append, length-drop, length-take, take-append-drop, take_at, drop_at, take-add, take-take, get_or-take, get_or-drop, length-take-le, eqb-true, eq-eqb, ne_eqb}
-use Rattle.std.proofs.Math.Option.{Option, none, some}
-use Rattle.sets.specs.Laws.{one_by_one}
-use Rattle.meaning.specs.Node.{Node, Node.empty, Node.bset, Node.assert, Node.group, Node.seq, Node.alt, Node.many, lo, hi, Proper}
-use Rattle.meaning.specs.Flat.{Kind, Kind.sequence, Kind.alternation, Not, parts}
-use Rattle.meaning.specs.Numbering.{Numbers, forwards}
-use Rattle.meaning.specs.Tests.{and_true}
-use Rattle.meaning.specs.All.{All, all_imp, all_append, all_left, all_right}
+use Rattle.std.specs.Prelude.{◌≡◌, refl, Bool, true, not, ◌&&◌, List, [], ◌∷◌, ◌++◌, ℕ, suc, ◌+◌, ◌*◌, ◌≤◌, ◌<◌, eqb, length, take}
+use Rattle.std.proofs.Common.{sym, ap, ◌∙◌, append_assoc, arith, length-append, take_at, take-take}
+use Rattle.std.proofs.Math.Option.{none}
+use Rattle.meaning.specs.Node.{Node, hi, Proper}
+use Rattle.meaning.specs.All.{All, all_imp}
 use Rattle.meaning.specs.Results.{concat_map}
-use Rattle.machine.specs.Layout.{size_of}
-use Rattle.table.specs.Table.{record_words, kind_word, operand_word, records_word, items_word, size_word, lowest_word, highest_word, set_word}
-use Rattle.table.specs.Table.{word_of, size_cap, record_count, record_of, own_record, records, group_kind, sequence_kind, alternation_kind}
-use Rattle.table.specs.Laws.{inner, kind_of, operand_of, last_of, own, own_long, inner_words, records_append, long_all, count_all, parts_flat}
-use Rattle.table.specs.Derived.{record_limit, derived_of}
-use Rattle.table.specs.Stands.{Stands, Ends, Series, Made}
-use Rattle.table.specs.Roots.{stands_long, fewer, root_word, root_derived, root_kind, root_operand, root_items, root_set, inside}
+use Rattle.table.specs.Table.{record_words, records_word, size_word, lowest_word, highest_word}
+use Rattle.table.specs.Table.{word_of, record_count, own_record, records}
+use Rattle.table.specs.Laws.{inner, kind_of, own_long, long_all, count_all}
+use Rattle.table.specs.Stands.{Stands, Series}
+use Rattle.table.specs.Roots.{stands_long, fewer}
 use Rattle.table.specs.declared.Derived.{Derived}
-use Rattle.reading_items.specs.Parts.{NumbersIn, numbers_parts}
 use Rattle.tidying_shapes.specs.Skeleton.{skeleton}
 use Rattle.tidying_shapes.specs.Tokens.{Says}
 use Rattle.tidying_shapes.specs.Laws.{says_join, says_same}
 use Rattle.tidying_shapes.proofs.Parse.{skeletons_injective}
 use Rattle.tidying_shapes.proofs.Told.{records_say}
-use Rattle.showing_form.specs.Form.{OfForm, form_of}
-use Rattle.showing_form.specs.Exact.{form_stands, some_kind}
+use Rattle.showing_form.specs.Form.{OfForm}
+use Rattle.showing_form.specs.Exact.{form_stands}
 use Rattle.showing_form.specs.Parts.{Good, Closed, closed_at}
-use Rattle.showing_form.specs.Order.{next_of, follows, in_order, order_complete}
-use Rattle.showing_form.specs.Shapes.{shaped, shape_of, barred, unlike, opens}
-use Rattle.showing_form.specs.Builds.{Built, builds}
+use Rattle.showing_form.specs.Order.{next_of, follows}
+use Rattle.showing_form.specs.Shapes.{barred, opens}
 
 -- The parts complete below a record number: good ones, as many as are counted.
 pub record StackIs (table : List ℕ) (top count : ℕ) (l : List Node) : Type 0 where

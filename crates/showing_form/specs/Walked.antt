@@ -1,14 +1,14 @@
 -- The walk over the items that end at a record number, from the last one back.
-use Rattle.std.specs.Prelude.{◌≡◌, refl, Bool, true, false, cond, not, ◌&&◌, List, [], ◌∷◌, ◌++◌, ℕ, ◌+◌, ◌-◌, ◌*◌, ◌≤◌, ◌<◌, eqb, length}
-use Rattle.std.proofs.Common.{sym, ap, ap₂, subst, ◌∙◌, append_assoc, append-nil, arith}
-use Rattle.meaning.specs.Node.{Node, lo, hi}
+use Rattle.std.specs.Prelude.{◌≡◌, refl, Bool, true, false, cond, not, ◌&&◌, List, [], ◌∷◌, ◌++◌, ℕ, ◌-◌, ◌*◌, ◌≤◌, ◌<◌, eqb, length}
+use Rattle.std.proofs.Common.{sym, ap, subst, ◌∙◌, append_assoc, append-nil, arith}
+use Rattle.meaning.specs.Node.{Node, hi}
 use Rattle.meaning.specs.Results.{concat_map}
-use Rattle.table.specs.Table.{record_words, kind_word, records_word, lowest_word, highest_word, word_of, record_count, records}
+use Rattle.table.specs.Table.{record_words, kind_word, records_word, lowest_word, highest_word, word_of, records}
 use Rattle.table.specs.Laws.{kind_of}
 use Rattle.table.specs.Stands.{Ends, Series}
 use Rattle.table.specs.Roots.{some_records, few_records_lem, root_kind, root_records, root_groups, some_last, last_ends, shorter}
 use Rattle.showing_form.specs.Order.{next_of, follows}
-use Rattle.showing_form.specs.Stack.{walk_ok, SomeItems, orderly, Walks}
+use Rattle.showing_form.specs.Stack.{walk_ok}
 
 -- The items passed, and those that are left.
 pub record Walked (b : ℕ) (table before : List ℕ) (m : List Node) (ok : Bool) (next at left : ℕ) : Type 0 where

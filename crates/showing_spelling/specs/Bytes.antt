@@ -1,16 +1,16 @@
 -- The spelling of a byte reads back: it is an atom of its byte, in a class and outside one.
-use Rattle.std.specs.Prelude.{◌≡◌, refl, Bool, true, false, cond, not, ◌||◌, ◌&&◌, List, [], ◌∷◌, ℕ, zero, suc, ◌+◌, ◌-◌, ◌*◌, ◌/◌, ◌%◌, ◌≤◌, ◌<◌, length, get_or}
-use Rattle.std.proofs.Common.{sym, ap, subst, ◌∙◌, arith, eqb-true, eq-eqb}
+use Rattle.std.specs.Prelude.{◌≡◌, refl, Bool, true, false, not, ◌||◌, ◌&&◌, List, [], ◌∷◌, ℕ, zero, suc, ◌+◌, ◌-◌, ◌*◌, ◌/◌, ◌%◌, ◌<◌, length, get_or}
+use Rattle.std.proofs.Common.{sym, ap, subst, ◌∙◌, arith, eqb-true}
 use Rattle.std.proofs.lemmas.Bool.{false≢true, eqb-false}
 use Rattle.std.proofs.Math.Dec.{eqb}
 use Rattle.sets.specs.Sets.{below, between, is_word, is_digit}
 use Rattle.sets.specs.Bits.{below_at}
 use Rattle.meaning.specs.Quoted.{bytes}
 use Rattle.meaning.specs.Tests.{and_true, by_test}
-use Rattle.reading_atoms.specs.Chars.{no_byte, byte_at, backslash, close_bracket, caret, hyphen, is_hex, hex_value}
+use Rattle.reading_atoms.specs.Chars.{backslash, close_bracket, caret, hyphen, is_hex, hex_value}
 use Rattle.reading_atoms.specs.Places.{neither, between_true}
 use Rattle.reading_items.specs.Reading.{literal_set}
-use Rattle.reading_grammar.specs.Atoms.{Is, Control, Control.feed, Control.newline, Control.return, Control.tab, Control.vertical}
+use Rattle.reading_grammar.specs.Atoms.{Control, Control.feed, Control.newline, Control.return, Control.tab, Control.vertical}
 use Rattle.reading_grammar.specs.Atoms.{EscapedByte, ByteAtom}
 use Rattle.reading_grammar.specs.Grammar.{special, SetAtom}
 use Rattle.showing_spelling.specs.Spelling.{guarded, control_letter, hex_digit, byte_text}

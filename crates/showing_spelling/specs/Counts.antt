@@ -1,15 +1,15 @@
 -- The spelling of an assertion and of a quantifier reads back; a quantifier that is not lazy before no `?`.
-use Rattle.std.specs.Prelude.{◌≡◌, Bool, cond, ◌&&◌, leb, get_or}
+use Rattle.std.specs.Prelude.{◌≡◌, Bool, ◌&&◌, leb}
 use Rattle.std.proofs.Math.Path.{refl, sym, subst}
-use Rattle.std.proofs.Common.{ap, ◌∙◌, add-zero}
+use Rattle.std.proofs.Common.{add-zero}
 use Rattle.std.proofs.Math.Bool.{true, false}
 use Rattle.std.proofs.Math.Option.{Option, none, some}
-use mathlib.Core.List.{List, [], ◌∷◌, ◌++◌, append-nil}
+use mathlib.Core.List.{List, [], ◌∷◌, ◌++◌}
 use Prim.Native.Nat.{ℕ, zero, suc, ◌+◌, ◌-◌, ◌*◌, ◌/◌, ◌%◌, ◌≤◌, ◌<◌}
 use native.Mathlib.Omega.{arith}
 use Rattle.std.proofs.Math.Dec.{eqb}
 use Rattle.std.proofs.Math.ListN.{length, length-append}
-use borrow.Author.Tests.{eqb-true, eqb-false, le-leb}
+use borrow.Author.Tests.{eqb-true, le-leb}
 use Rattle.sets.specs.Sets.{is_digit}
 use Rattle.meaning.specs.Limits.{count_limit, no_maximum, last_assertion}
 use Rattle.meaning.specs.Node.{Within}
@@ -20,7 +20,7 @@ use Rattle.intake_report.specs.Laws.{decimal_one, decimal_more, decimal_ind}
 use Rattle.reading_atoms.specs.Chars.{byte_at, star, plus, question, open_brace, close_brace, comma}
 use Rattle.reading_grammar.specs.Atoms.{Is, Digits, Counts, Times, Quantified}
 use Rattle.reading_grammar.specs.Grammar.{Assertion}
-use Rattle.showing_spelling.specs.Spelling.{assertion_text, most_text, braces_text, counts_text, quantifier_text}
+use Rattle.showing_spelling.specs.Spelling.{assertion_text, braces_text, counts_text, quantifier_text}
 use Rattle.showing_spelling.specs.Texts.{At, at_first, at_front, at_back, and_of}
 
 -- An assertion, by its number.

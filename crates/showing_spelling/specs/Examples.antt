@@ -1,6 +1,6 @@
 -- Computed examples of spellings: the study's vectors, and both sides of each rule.
-use Rattle.std.specs.Prelude.{◌≡◌, refl, true, false, not, ◌||◌, [], ◌∷◌, eqb}
-use Rattle.sets.specs.Sets.{bit, has, set_of, word_of, same_bytes, between, is_digit, is_word, is_space, is_dot, in_escape}
+use Rattle.std.specs.Prelude.{◌≡◌, refl, true, false, not, ◌||◌, [], eqb}
+use Rattle.sets.specs.Sets.{bit, has, set_of, word_of, same_bytes, is_digit, is_word, is_space, is_dot, in_escape}
 use Rattle.meaning.specs.Limits.{no_maximum}
 use Rattle.meaning.specs.Quoted.{bytes}
 use Rattle.intake_report.specs.Texts.{decimal, digits}

@@ -1,6 +1,6 @@
 -- What is written before a place of a lent buffer, and how two such writes are one. Where no room is left the place is 0.
-use Rattle.std.specs.Prelude.{◌≡◌, refl, Bool, true, false, List, [], ◌∷◌, ◌++◌, ℕ, zero, suc, ◌+◌, ◌-◌, ◌≤◌, ◌<◌, ltb, length, get_or, drop, set}
-use Rattle.std.proofs.Common.{sym, ap, ◌∙◌, append_assoc, arith, length-append, length-set, length-drop, drop-cons, drop-drop, drop-set-lt, get_or-set_same, lt-ltb, le-ltb, ltb-true, ltb-false}
+use Rattle.std.specs.Prelude.{◌≡◌, refl, Bool, true, false, List, [], ◌∷◌, ◌++◌, ℕ, zero, suc, ◌+◌, ◌-◌, ◌≤◌, ◌<◌, ltb, length, drop, set}
+use Rattle.std.proofs.Common.{sym, ap, ◌∙◌, append_assoc, arith, length-append, length-set, drop-cons, drop-drop, drop-set-lt, get_or-set_same, lt-ltb, ltb-true}
 use Rattle.showing_spelling.specs.Spelling.{shorter}
 
 -- A text written before a place: the answer is the place where it begins, and what stands behind the place is as it was. Where

@@ -1,7 +1,7 @@
 -- The spelling of runs in a class reads back: they are items that add just the bytes of the runs.
-use Rattle.std.specs.Prelude.{◌≡◌, ◌⊎◌, Bool, cond, not, ◌||◌, ◌&&◌, eqb, leb, get_or}
+use Rattle.std.specs.Prelude.{◌≡◌, Bool, ◌||◌, ◌&&◌, eqb, leb}
 use Rattle.std.proofs.Math.Path.{refl, ap, subst}
-use Rattle.std.proofs.Common.{sym, ◌∙◌, inl, inr, true≢false, add-zero}
+use Rattle.std.proofs.Common.{sym, ◌∙◌, true≢false, add-zero}
 use Rattle.std.proofs.Math.Logic.{⊎_elim}
 use Rattle.std.proofs.Math.Bool.{true, false, or-true, or-false, or_assoc}
 use mathlib.Core.List.{List, [], ◌∷◌, ◌++◌}
@@ -10,16 +10,16 @@ use native.Mathlib.Omega.{arith}
 use Rattle.std.proofs.Math.Decide.{dec_lt, dec_le}
 use Rattle.std.proofs.Math.Dec.{ltb}
 use Rattle.std.proofs.Math.ListN.{length, length-append}
-use borrow.Author.Tests.{leb-true, leb-false, ltb-true, ltb-false, eqb-true, eqb-false, le-leb, lt-ltb, eq-eqb}
-use Rattle.sets.specs.Sets.{has, set_of, Holds, between, in_escape}
+use borrow.Author.Tests.{leb-true, leb-false, ltb-true, eqb-true, le-leb, lt-ltb, eq-eqb}
+use Rattle.sets.specs.Sets.{has, Holds, between, in_escape}
 use Rattle.sets.specs.Laws.{holds_to, set_of_holds}
 use Rattle.meaning.specs.Tests.{and_true, by_test}
-use Rattle.reading_atoms.specs.Chars.{byte_at, backslash, hyphen}
+use Rattle.reading_atoms.specs.Chars.{backslash, hyphen}
 use Rattle.reading_atoms.specs.Classes.{added, takes}
 use Rattle.reading_atoms.specs.Places.{either, between_true}
-use Rattle.reading_grammar.specs.Atoms.{Is, EscapedSet, ByteAtom, ClassItems}
+use Rattle.reading_grammar.specs.Atoms.{Is, EscapedSet, ClassItems}
 use Rattle.showing_spelling.specs.Spelling.{guarded, byte_text, run_text, runs_text}
-use Rattle.showing_spelling.specs.Texts.{At, at_first, at_front, at_back, at_as, iff_eq, and_of}
+use Rattle.showing_spelling.specs.Texts.{At, at_first, at_front, at_back, iff_eq, and_of}
 use Rattle.showing_spelling.specs.Bytes.{byte_atom, byte_long, byte_free}
 
 -- The bytes from one to before another.

@@ -1,26 +1,25 @@
 -- The spelling of a byte set reads back: it is an atom of that set, wherever it stands.
-use Rattle.std.specs.Prelude.{◌≡◌, Bool, cond, not, ◌||◌, ◌&&◌, eqb, ltb, get_or}
+use Rattle.std.specs.Prelude.{◌≡◌, Bool, not, ◌||◌, ◌&&◌, ltb, get_or}
 use Rattle.std.proofs.Math.Path.{refl, sym, subst}
 use Rattle.std.proofs.Common.{ap, ◌∙◌, true≢false, add-zero, arith}
 use Rattle.std.proofs.Math.Bool.{true, false, or-true, or-false}
-use Rattle.std.proofs.lemmas.Bool.{false≢true}
 use mathlib.Core.List.{List, [], ◌∷◌, ◌++◌}
-use Prim.Native.Nat.{ℕ, zero, suc, ◌+◌, ◌-◌, ◌≤◌, ◌<◌}
+use Prim.Native.Nat.{ℕ, zero, suc, ◌+◌, ◌<◌}
 use Rattle.std.proofs.Math.ListN.{length, length-append}
 use borrow.Author.Tests.{ltb-true, ltb-false, lt-ltb}
 use Rattle.sets.specs.Sets.{has, set_of, Formed, same_bytes, is_dot, in_escape}
 use Rattle.sets.specs.Laws.{set_of_holds, set_of_has, set_of_cong, words_of, same_true, same_words}
 use Rattle.meaning.specs.Quoted.{bytes}
 use Rattle.meaning.specs.Tests.{and_true, by_test}
-use Rattle.reading_atoms.specs.Chars.{byte_at, caret, backslash, dot, open_bracket, close_bracket, hyphen}
+use Rattle.reading_atoms.specs.Chars.{caret, backslash, dot, open_bracket, close_bracket, hyphen}
 use Rattle.reading_atoms.specs.Classes.{added, takes, class_set}
 use Rattle.reading_items.specs.Reading.{literal_set, dot_set}
 use Rattle.reading_grammar.specs.Atoms.{Is, EscapedSet, Named, ClassItems, Class}
 use Rattle.reading_grammar.specs.Grammar.{SetAtom}
-use Rattle.showing_spelling.specs.Spelling.{guarded, byte_text, runs_text, runs_of, contains, lacking, escape_letter, escape_text}
-use Rattle.showing_spelling.specs.Spelling.{words_in, spaces_in, named_text, inside_text, class_text, shorter, others, either_text}
+use Rattle.showing_spelling.specs.Spelling.{guarded, byte_text, runs_of, contains, lacking, escape_letter, escape_text}
+use Rattle.showing_spelling.specs.Spelling.{words_in, spaces_in, named_text, inside_text, class_text, others, either_text}
 use Rattle.showing_spelling.specs.Spelling.{best_text, escape_of, lowest, plain_text, set_text}
-use Rattle.showing_spelling.specs.Texts.{At, at_first, at_front, at_back, at_as, no_escape}
+use Rattle.showing_spelling.specs.Texts.{At, at_first, at_front, at_back, no_escape}
 use Rattle.showing_spelling.specs.Bytes.{byte_set_lem}
 use Rattle.showing_spelling.specs.Runs.{Listed, listed_as, listed_escape, hyphen_guarded, Kept, kept_append, runs_kept}
 use Rattle.showing_spelling.specs.Runs.{runs_read}

@@ -1,16 +1,14 @@
 -- Laws of the texts, by the tests that the code asks, and of a text that stands in a pattern.
-use Rattle.std.specs.Prelude.{◌≡◌, refl, Bool, true, false, cond, not, ◌||◌, ◌&&◌, List, [], ◌∷◌, ◌++◌, ℕ, zero, suc, ◌+◌, ◌-◌, ◌/◌, ◌%◌, ◌^◌, ◌≤◌, ◌<◌, eqb, length, get_or}
-use Rattle.std.proofs.Common.{sym, ap, subst, ◌∙◌, add-zero, add_assoc, arith, length-append, get_or-append-add}
+use Rattle.std.specs.Prelude.{◌≡◌, refl, Bool, true, false, not, ◌||◌, ◌&&◌, List, [], ◌∷◌, ◌++◌, ℕ, zero, suc, ◌+◌, ◌-◌, ◌/◌, ◌%◌, ◌^◌, ◌≤◌, ◌<◌, eqb, length, get_or}
+use Rattle.std.proofs.Common.{sym, ap, subst, ◌∙◌, add-zero, arith, length-append, get_or-append-add}
 use Rattle.std.specs.Bool.{beq}
-use Rattle.std.proofs.lemmas.Bool.{false≢true}
 use Rattle.std.specs.Int.Bits.{bit_and}
 use Rattle.std.proofs.lemmas.Nat.{and_mask}
 use Rattle.std.proofs.Math.ListN.{get_or-append, get_or-eq_default}
 use Rattle.sets.specs.Sets.{bit, has, set_of, same_bytes, below, between, is_word, is_digit, is_space, in_escape}
 use borrow.Author.Tests.{lt-ltb, le-ltb, le-leb, lt-leb, eq-eqb, ne_eqb}
 use Rattle.sets.specs.Bits.{below_at, beq_eq}
-use Rattle.meaning.specs.Quoted.{bytes}
-use Rattle.reading_atoms.specs.Chars.{no_byte, byte_at, backslash, dot, hyphen}
+use Rattle.reading_atoms.specs.Chars.{no_byte, backslash, dot, hyphen}
 use Rattle.reading_atoms.specs.Places.{byte_there}
 use Rattle.reading_grammar.specs.Atoms.{Is}
 use Rattle.reading_grammar.specs.Grammar.{special}

@@ -2,14 +2,12 @@
 -- argument.
 use Rattle.std.specs.Prelude.{◌≡◌, List, ◌++◌, ℕ, ◌-◌, ◌*◌, ◌≤◌, length, replicate}
 use Rattle.std.proofs.Math.Option.{some}
-use Rattle.std.proofs.Common.{arith}
 use Rattle.meaning.specs.Limits.{pattern_limit, table_words}
 use Rattle.meaning.specs.Node.{Node, Proper}
 use Rattle.meaning.specs.Numbering.{Numbers}
 use Rattle.meaning.specs.Flat.{Flat}
 use Rattle.table.specs.Table.{record_words, record_count, records}
 use Rattle.table.specs.Stands.{Stands}
-use Rattle.tidying_laws.specs.Groups.{positive}
 use Rattle.tidying_laws.specs.Charge.{charge}
 use Rattle.tidying_laws.specs.Tidier.{found, tidy}
 use Rattle.tidying.specs.Standing.{Whole}

@@ -9,8 +9,6 @@ use Rattle.table.specs.Table.{record_words, unless, records_in, record_count, ow
 use Rattle.table.specs.Laws.{long}
 use Rattle.table.specs.Stands.{Stands, Ends}
 use Rattle.table.specs.Roots.{stands_long}
-use Rattle.tidying_laws.specs.Groups.{groups, Positive, positive_both}
-use Rattle.tidying_laws.specs.Measures.{groups_adds}
 use Rattle.tidying_laws.specs.Tidier.{Place, itself, inside, whole, places}
 use Rattle.tidying_laws.specs.Found.{nth}
 

@@ -3,7 +3,7 @@ use mathlib.Core.Logic.{⊎_elim, inl, inr}
 use Prim.Native.Nat.{◌-◌}
 use native.Mathlib.Omega.{arith}
 use borrow.Author.Rules.{rules}
-use borrow.Author.Tests.{leb-true, leb-false}
+use borrow.Author.Tests.{leb-true}
 use lib.ListN.{length}
 use Rattle.intake_report.specs.Wrote.{wrote_length, wrote_within}
 use Rattle.intake_lines.specs.Ended.{line_room}
@@ -49,5 +49,8 @@ shape_of-out c =
 
 pub returns : goal.returns
 returns c =
-    let same = wrote_length c.loop-fed.invariant.0.text_is in record { feeds = feeding_ends c.loop-fed.invariant.0
-          (⊎_elim (λ w. inr (omega (arith, same, w.if-out-fed-ge-LINE_ROOM.false))) (λ w. inl w.loop-fed-test.false) c.loop-fed-test.branch-raw); untouched = c.loop-fed.invariant.1 }
+    let same = wrote_length c.loop-fed.invariant.0.text_is in record {
+      feeds = feeding_ends c.loop-fed.invariant.0
+          (⊎_elim (λ w. inr (omega (arith, same, w.if-out-fed-ge-LINE_ROOM.false))) (λ w. inl w.loop-fed-test.false) c.loop-fed-test.branch-raw);
+      untouched = c.loop-fed.invariant.1;
+    }

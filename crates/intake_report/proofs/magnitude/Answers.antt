@@ -1,6 +1,5 @@
 -- A negative number is taken from 0 at 64 bits, where nothing is lost; any other is its own magnitude.
 use mathlib.Core.Path.{◌≡◌}
-use mathlib.Core.Bool.{true, false}
 use native.Mathlib.Omega.{arith}
 use lib.IntN.{ℤ, pos, ◌-ℤ◌, nat_abs}
 use mir.Syntax.{w32, w64}

@@ -2,10 +2,10 @@
 use borrow.Author.Rules.{rules}
 use native.Mathlib.Omega.{arith}
 use mathlib.Core.Path.{sym, subst, ◌∙◌}
-use mathlib.Core.Bool.{Bool, true, false}
+use mathlib.Core.Bool.{Bool}
 use borrow.Author.Tests.{not-true, not-false}
 use Rattle.sets.specs.Laws.{formed_of}
-use Rattle.showing_form.specs.Stack.{Walks, derived_told, stack_few}
+use Rattle.showing_form.specs.Stack.{Walks, stack_few}
 use Rattle.showing_form.specs.Blank.{blank}
 use Rattle.showing_form.specs.Closing.{fails_shape, fails_few, fails_order, fails_told, items_there, some_made, closes_one}
 use Rattle.showing_form.proofs.closes.Goals as goal

@@ -1,7 +1,7 @@
 use native.Mathlib.Omega.{arith}
 use mathlib.Core.Path.{◌≡◌, sym, subst, ◌∙◌}
-use mathlib.Core.Bool.{Bool, true, false}
-use Prim.Native.Nat.{ℕ, ◌+◌, ◌-◌, ◌*◌}
+use mathlib.Core.Bool.{Bool}
+use Prim.Native.Nat.{ℕ, ◌+◌, ◌*◌}
 use native.Mathlib.Decide.{dec_lt}
 use lib.ListN.{get_or}
 use borrow.Author.Tests.{not-true, not-false}
@@ -40,8 +40,7 @@ loop-next-smaller c =
 
 pub loop-next-preserved : goal.loop-next-preserved
 loop-next-preserved c =
-    let u = c.used.ensures.yes_is c.loop-next-test.true in
-    (
+    let u = c.used.ensures.yes_is c.loop-next-test.true in (
       c.closes-next.ensures.passed (omega (arith, c.if-next-eq0.false)),
       u.0,
       λ i h. elim (dec_lt i c.loop-next.top) [

@@ -1,7 +1,7 @@
 use native.Mathlib.Omega.{arith}
 use mathlib.Core.Path.{◌≡◌, sym, subst}
-use mathlib.Core.Bool.{true, false, true≢false}
-use Prim.Native.Nat.{ℕ, ◌-◌}
+use mathlib.Core.Bool.{true≢false}
+use Prim.Native.Nat.{ℕ}
 use native.Mathlib.Decide.{dec_lt}
 use lib.ListN.{get_or, get_or-eq_default}
 use Rattle.showing_form.proofs.zeros.Goals as goal
@@ -27,14 +27,13 @@ loop-i-smaller c =
     omega arith
 
 pub loop-i-preserved : goal.loop-i-preserved
-loop-i-preserved c =
-    (
-      omega (arith, c.loop-i.invariant.0),
-      λ j h l. elim (dec_lt j c.loop-i.i) [
-        | yes m ↦ c.loop-i.invariant.1 j h m
-        | no m ↦ let e : c.loop-i.i ≡ j = omega arith in subst (λ (k : ℕ). get_or c.args.table.now k 0 ≡ 0) e c.if-table-i-ne0.false
-      ],
-    )
+loop-i-preserved c = (
+  omega (arith, c.loop-i.invariant.0),
+  λ j h l. elim (dec_lt j c.loop-i.i) [
+    | yes m ↦ c.loop-i.invariant.1 j h m
+    | no m ↦ let e : c.loop-i.i ≡ j = omega arith in subst (λ (k : ℕ). get_or c.args.table.now k 0 ≡ 0) e c.if-table-i-ne0.false
+  ],
+)
 
 pub returns : goal.returns
 returns c =

@@ -1,6 +1,5 @@
 use native.Mathlib.Omega.{arith}
 use mathlib.Core.Path.{refl, sym, ap, ◌∙◌}
-use Prim.Native.Nat.{◌-◌}
 use Rattle.sets.specs.Sets.{same_bytes}
 use Rattle.sets.specs.Laws.{words_of}
 use Rattle.showing_spelling.specs.Texts.{escape_here, escape_next, escape_end}
@@ -28,12 +27,11 @@ loop-k-smaller c =
     omega arith
 
 pub loop-k-preserved : goal.loop-k-preserved
-loop-k-preserved c =
-    (
-      omega arith,
-      c.loop-k.invariant.1 ∙ escape_next c.args.set c.loop-k.k (omega arith)
-          (sym (c.same.ensures ∙ ap (same_bytes c.args.set) (words_of c.escape.ensures)) ∙ c.if-same.false),
-    )
+loop-k-preserved c = (
+  omega arith,
+  c.loop-k.invariant.1 ∙ escape_next c.args.set c.loop-k.k (omega arith)
+      (sym (c.same.ensures ∙ ap (same_bytes c.args.set) (words_of c.escape.ensures)) ∙ c.if-same.false),
+)
 
 pub returns : goal.returns
 returns c =

@@ -1,7 +1,7 @@
 -- What neither the complement nor the escape has.
 use borrow.Author.Rules.{rules}
 use mathlib.Core.Path.{sym, ap, ap₂, ◌∙◌}
-use mathlib.Core.Bool.{false, not, ◌||◌, ◌&&◌, and-true}
+use mathlib.Core.Bool.{not, ◌||◌, ◌&&◌, and-true}
 use Rattle.sets.specs.Sets.{has, in_escape}
 use Rattle.sets.specs.Laws.{words_of, holds_to, set_of_cong, set_of_has, formed_of}
 use Rattle.showing_spelling.specs.Texts.{not_or, no_escape}

@@ -1,6 +1,5 @@
 use native.Mathlib.Omega.{arith}
 use mathlib.Core.Path.{refl, sym, ◌∙◌}
-use Prim.Native.Nat.{◌-◌}
 use Rattle.sets.specs.Sets.{has}
 use Rattle.showing_spelling.specs.Texts.{lowest_in, lowest_out, lowest_end}
 use Rattle.showing_spelling.proofs.lowest.Goals as goal

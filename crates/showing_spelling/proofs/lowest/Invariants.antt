@@ -1,6 +1,6 @@
 -- The lowest of the bytes passed.
 use mathlib.Core.Path.{◌≡◌}
-use Prim.Native.Nat.{◌-◌, ◌≤◌}
+use Prim.Native.Nat.{◌≤◌}
 use Rattle.sets.specs.Sets.{has}
 use Rattle.showing_spelling.specs.Spelling.{lowest}
 use Rattle.showing_spelling.proofs.lowest.Given as goal

@@ -20,12 +20,11 @@ loop-left-smaller c =
     omega arith
 
 pub loop-left-preserved : goal.loop-left-preserved
-loop-left-preserved c =
-    (
-      (48 + c.loop-left.left % 10) ∷ c.loop-left.invariant.0,
-      and_before c.loop-left.invariant.1 c.put-at.ensures,
-      c.loop-left.invariant.2 ∙ ap (λ (t : List ℕ). t ++ c.loop-left.invariant.0) (decimal_more c.loop-left.left c.loop-left-test.true) ∙ append_assoc (decimal (c.loop-left.left / 10)) (digit (c.loop-left.left % 10)) c.loop-left.invariant.0,
-    )
+loop-left-preserved c = (
+  (48 + c.loop-left.left % 10) ∷ c.loop-left.invariant.0,
+  and_before c.loop-left.invariant.1 c.put-at.ensures,
+  c.loop-left.invariant.2 ∙ ap (λ (t : List ℕ). t ++ c.loop-left.invariant.0) (decimal_more c.loop-left.left c.loop-left-test.true) ∙ append_assoc (decimal (c.loop-left.left / 10)) (digit (c.loop-left.left % 10)) c.loop-left.invariant.0,
+)
 
 pub put-requires : goal.put-requires
 put-requires c =

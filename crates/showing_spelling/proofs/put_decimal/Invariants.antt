@@ -1,7 +1,7 @@
 -- The digits passed are written behind those that are left.
 use mathlib.Core.Path.{◌≡◌}
 use mathlib.Core.List.{List, ◌++◌}
-use Prim.Native.Nat.{ℕ, ◌+◌}
+use Prim.Native.Nat.{ℕ}
 use Rattle.intake_report.specs.Texts.{decimal}
 use Rattle.showing_spelling.specs.Put.{Put}
 use Rattle.showing_spelling.proofs.put_decimal.Given as goal

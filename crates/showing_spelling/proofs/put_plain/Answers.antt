@@ -1,7 +1,7 @@
 -- By the tests in their order.
 use native.Mathlib.Omega.{arith}
 use mathlib.Core.Path.{sym, ap, ◌∙◌}
-use mathlib.Core.Bool.{true, false}
+use mathlib.Core.Bool.{false}
 use Rattle.sets.specs.Sets.{same_bytes}
 use Rattle.sets.specs.Laws.{words_of}
 use Rattle.reading_items.specs.Reading.{literal_set}

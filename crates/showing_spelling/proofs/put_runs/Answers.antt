@@ -2,7 +2,6 @@ use borrow.Author.Rules.{rules}
 use native.Mathlib.Omega.{arith}
 use mathlib.Core.Path.{sym, ap, ◌∙◌}
 use mathlib.Core.List.{List, [], ◌++◌, append-nil, append_assoc}
-use mathlib.Core.Bool.{false}
 use Prim.Native.Nat.{ℕ, ◌+◌, ◌-◌}
 use borrow.Author.Tests.{not-true, not-false}
 use Rattle.sets.specs.Sets.{has}
@@ -36,35 +35,33 @@ loop-n-smaller-then-not-has c =
     omega arith
 
 pub loop-n-preserved-then-not-has : goal.loop-n-preserved-then-not-has
-loop-n-preserved-then-not-has c =
-    (
-      omega arith,
-      omega arith,
-      (
-        run_text (c.loop-n.n - 1 + 1) c.loop-n.last ++ c.loop-n.invariant.2.0,
-        and_before c.loop-n.invariant.2.1 c.put_run-at.ensures,
-        c.loop-n.invariant.2.2 ∙ ap (λ (t : List ℕ). t ++ c.loop-n.invariant.2.0) (runs_out (has c.args.set) c.loop-n.n c.loop-n.last (omega arith)
-            (sym c.has.ensures ∙ not-true c.has.result c.if-not-has.true-raw))
-            ∙ append_assoc (runs_text (has c.args.set) (c.loop-n.n - 1) (c.loop-n.n - 1)) (run_text (c.loop-n.n - 1 + 1) c.loop-n.last) c.loop-n.invariant.2.0,
-      ),
-    )
+loop-n-preserved-then-not-has c = (
+  omega arith,
+  omega arith,
+  (
+    run_text (c.loop-n.n - 1 + 1) c.loop-n.last ++ c.loop-n.invariant.2.0,
+    and_before c.loop-n.invariant.2.1 c.put_run-at.ensures,
+    c.loop-n.invariant.2.2 ∙ ap (λ (t : List ℕ). t ++ c.loop-n.invariant.2.0) (runs_out (has c.args.set) c.loop-n.n c.loop-n.last (omega arith)
+        (sym c.has.ensures ∙ not-true c.has.result c.if-not-has.true-raw))
+        ∙ append_assoc (runs_text (has c.args.set) (c.loop-n.n - 1) (c.loop-n.n - 1)) (run_text (c.loop-n.n - 1 + 1) c.loop-n.last) c.loop-n.invariant.2.0,
+  ),
+)
 
 pub loop-n-smaller : goal.loop-n-smaller
 loop-n-smaller c =
     omega arith
 
 pub loop-n-preserved : goal.loop-n-preserved
-loop-n-preserved c =
-    (
-      omega arith,
-      omega arith,
-      (
-        c.loop-n.invariant.2.0,
-        c.loop-n.invariant.2.1,
-        c.loop-n.invariant.2.2 ∙ ap (λ (t : List ℕ). t ++ c.loop-n.invariant.2.0) (runs_in (has c.args.set) c.loop-n.n c.loop-n.last (omega arith)
-            (sym c.has.ensures ∙ not-false c.has.result c.if-not-has.false-raw)),
-      ),
-    )
+loop-n-preserved c = (
+  omega arith,
+  omega arith,
+  (
+    c.loop-n.invariant.2.0,
+    c.loop-n.invariant.2.1,
+    c.loop-n.invariant.2.2 ∙ ap (λ (t : List ℕ). t ++ c.loop-n.invariant.2.0) (runs_in (has c.args.set) c.loop-n.n c.loop-n.last (omega arith)
+        (sym c.has.ensures ∙ not-false c.has.result c.if-not-has.false-raw)),
+  ),
+)
 
 pub put_run-requires : goal.put_run-requires
 put_run-requires c =

@@ -1,7 +1,7 @@
 -- Before byte n the runs above the open one are written; a byte that is not in closes it.
 use mathlib.Core.Path.{◌≡◌}
 use mathlib.Core.List.{List, ◌++◌}
-use Prim.Native.Nat.{ℕ, ◌+◌, ◌-◌, ◌≤◌}
+use Prim.Native.Nat.{ℕ, ◌≤◌}
 use Rattle.sets.specs.Sets.{has}
 use Rattle.showing_spelling.specs.Spelling.{runs_text, runs_of}
 use Rattle.showing_spelling.specs.Put.{Put}

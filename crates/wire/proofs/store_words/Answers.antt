@@ -1,5 +1,4 @@
 use mathlib.Core.Path.{◌≡◌, ap, ◌∙◌}
-use Prim.Native.Nat.{◌-◌}
 use native.Mathlib.Omega.{arith}
 use borrow.Author.Rules.{rules}
 use lib.ListN.{length, take, get_or}
@@ -29,13 +28,12 @@ pub loop-k-smaller : goal.loop-k-smaller
 loop-k-smaller c = search rules
 
 pub loop-k-preserved : goal.loop-k-preserved
-loop-k-preserved c =
-    (
-      omega arith,
-      front_four (λ i. bytes_of_words (take i c.args.words.now)) (bytes_of_word (get_or c.args.words.now c.loop-k.k 0)) c.loop-k.invariant.1
-          (word_length _) (omega arith)
-          c.put_word.ensures (bytes_more c.args.words.now c.loop-k.k (omega arith)),
-    )
+loop-k-preserved c = (
+  omega arith,
+  front_four (λ i. bytes_of_words (take i c.args.words.now)) (bytes_of_word (get_or c.args.words.now c.loop-k.k 0)) c.loop-k.invariant.1
+      (word_length _) (omega arith)
+      c.put_word.ensures (bytes_more c.args.words.now c.loop-k.k (omega arith)),
+)
 
 pub shape_of-bytes : goal.shape_of-bytes
 shape_of-bytes c = front_length c.loop-k.invariant.1
