@@ -69,6 +69,7 @@ fn behind_question(s: &[u8], at: usize, depth: u32, groups: u32) -> Opening
 }
 
 // What the `(` at a place opens, below `depth` others.
+#[tactic(auto, using(crate::proofs::Opens::group_deep, crate::proofs::Opens::group_many, crate::proofs::Opens::group_opens))]
 pub fn opening_at(s: &[u8], at: usize, depth: u32, groups: u32) -> Opening
     requires { OpensAt s.now at depth groups }
     ensures { Opens s.now at depth groups result }

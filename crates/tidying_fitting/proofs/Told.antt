@@ -6,7 +6,7 @@ use Prim.Native.Nat.{ℕ, ◌+◌, ◌-◌, ◌*◌, ◌≤◌, ◌<◌}
 use native.Mathlib.Omega.{arith}
 use lib.ListN.{length, take, drop}
 use lib.Dec.{eqb}
-use borrow.Author.Tests.{eqb-true}
+use borrow.Author.Tests.{eqb-true, ne_eqb}
 use Rattle.meaning.specs.Tests.{and_true}
 use Rattle.meaning.specs.Node.{Node, Node.empty, Node.bset, Node.assert, Node.group, Node.seq, Node.alt, Node.many, hi, Proper}
 use Rattle.table.specs.Table.{quantifier_kind}
@@ -17,7 +17,10 @@ use Rattle.table.specs.Laws.{inner, kind_of, last_of}
 use Rattle.table.specs.Roots.{root_set, root_word, last_ends, inside}
 use Rattle.table.specs.Stands.{Ends, SomePart}
 use Rattle.tidying_fitting.specs.Parts.{Tells, room}
-use Rattle.tidying_fitting.specs.Words.{own_of, start_of, on_part, ranged, nested_in, is_nested}
+use Rattle.meaning.specs.Limits.{no_maximum}
+use Rattle.tidying_laws.specs.Laws.{t10}
+use Rattle.tidying_fitting.specs.Fitting.{fits}
+use Rattle.tidying_fitting.specs.Words.{own_of, start_of, on_part, ranged, nested_in, is_nested, lazy_words, both_zero, t10_words}
 use Rattle.tidying_fitting.specs.declared.Record.{Record}
 
 module _ {table : List ℕ} {top : ℕ} where
@@ -169,3 +172,10 @@ module _ {table : List ℕ} {top : ℕ} where
     first_passes e u = record {
       by = λ before r p. u.by before r p ∙ sym (h r p.proper ∙ ap (λ d. d && second r) (sym (t.by before r p) ∙ e));
     }
+
+-- A quantifier at 1 or more of one at 0 or more, of which the outer is lazy: T10 takes only two greedy ones.
+pub lazy_outer : {table : List ℕ} {top : ℕ} {n : Bool} {o i : Record} → Tells n table top (is_nested 1 no_maximum) → n ≡ true
+    → Tells o table top own_of → Tells i table (top - 1) own_of → (o.lazy ≡ 0 → ⊥) → Tells false table top (fits t10)
+lazy_outer {o = o} {i = i} n e t u h = first_passes (fits t10) (is_nested 1 no_maximum) (lazy_words both_zero) t10_words n e
+    (on_quantifier (λ o i. both_zero o.lazy i.lazy) (quantified_passed (λ r q. nested_in 1 no_maximum (own_of r) (own_of q)) n e)
+    t u (rw (ne_eqb _ _ h)))

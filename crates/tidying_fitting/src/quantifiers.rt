@@ -113,6 +113,7 @@ pub fn option_of_option(table: &[u32], top: usize) -> bool
 }
 
 // T10: (?:r*)+, both greedy.
+#[tactic(auto, using(crate::proofs::Told::lazy_outer))]
 pub fn loop_once_of_loop(table: &[u32], top: usize) -> bool
     requires { SomePart table.now top }
     ensures { Tells result table.now top (fits t10) }
