@@ -1,5 +1,6 @@
 -- What the promise of a call for every match says: its refusals in order, the bound of each run, the standard's matches, and
 -- that plain and tidied code give one list.
+-- The definitions stand here; proofs/AllMatches.antt has the theorems.
 use Rattle.std.specs.Prelude.{◌≡◌, Bool, ℤ, length}
 use mathlib.Core.List.{List}
 use Prim.Native.Nat.{ℕ, suc, ◌+◌, ◌*◌, ◌-◌, ◌≤◌}

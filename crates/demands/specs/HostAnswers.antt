@@ -1,4 +1,5 @@
 -- The bytes that the host's compiling leaves, run by the host's match or search: what is answered is what the standard finds.
+-- The definitions stand here; proofs/HostAnswers.antt has the theorems.
 use Rattle.std.specs.Prelude.{List, ◌∷◌, ℕ, zero, suc, ltb, length}
 use Rattle.std.proofs.Math.Option.{Option}
 use Rattle.meaning.specs.Text.{Regs}

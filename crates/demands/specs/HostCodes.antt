@@ -1,4 +1,5 @@
 -- The code's bytes after compiling: those of the program in front, or all as they were.
+-- The definitions stand here; proofs/HostCodes.antt has the theorems.
 use Rattle.std.specs.Prelude.{◌≡◌, Bool, List, ◌++◌, ℕ, length}
 use Rattle.meaning.specs.Limits.{code_words, table_size}
 use Rattle.meaning.specs.Node.{Node}

@@ -1,4 +1,5 @@
 -- What the intake program writes for a text line is what the standard's search finds on the pattern of the first line.
+-- The definitions stand here; proofs/IntakeAnswers.antt has the theorems.
 use Rattle.std.specs.Prelude.{List, [], ◌∷◌, map}
 use Rattle.std.proofs.Math.Option.{Option, none, some}
 use Prim.Native.Nat.{ℕ, zero, suc}

@@ -1,5 +1,6 @@
 -- What a pattern is answered with by `compile` and `compile_tidied`, by the grammar's own words and no parser's, and what they
 -- leave behind.
+-- The definitions stand here; proofs/Patterns.antt has the theorems.
 use Rattle.std.specs.Prelude.{◌≡◌, Bool, List, ℕ, ◌≤◌, ◌<◌, length, replicate}
 use Rattle.meaning.specs.Limits.{table_words, row_limit, code_words}
 use Rattle.meaning.specs.Refusals as No

@@ -1,5 +1,6 @@
 -- What the promises of a run say of any code, and of code that says a pattern: the bound, the count, and the answer of the
 -- standard.
+-- The definitions stand here; proofs/Runs.antt has the theorems.
 use Rattle.std.specs.Prelude.{◌≡◌, Bool, List, [], ◌∷◌, ◌++◌, ℕ, suc, ℤ, length, drop}
 use Rattle.meaning.specs.Text.{registers_of}
 use Rattle.meaning.specs.Bytes.{text_of}

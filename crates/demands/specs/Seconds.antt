@@ -1,5 +1,6 @@
 -- The second engine, over the promises of the public calls: `Answered` of `match_at` and `search`, `Seconded` of `second_match` and
 -- `second_search`.
+-- The definitions stand here; proofs/Seconds.antt has the theorems.
 use Rattle.std.specs.Prelude.{◌≡◌, Bool, List, ◌++◌, ℕ, ℤ, length, drop}
 use Rattle.meaning.specs.Text.{registers_of}
 use Rattle.meaning.specs.Node.{Node}

@@ -1,5 +1,6 @@
 -- Demand 3, over the promises of the public calls: the tidied pattern answers as the plain one, has no more rows, and no law
 -- still applies to it.
+-- The definitions stand here; proofs/Tidied.antt has the theorems.
 use Rattle.std.specs.Prelude.{◌≡◌, List, ◌++◌, ℕ, ◌≤◌, ℤ, length, drop}
 use Rattle.std.proofs.Math.Option.{Option, none}
 use Rattle.meaning.specs.Text.{Regs, registers_of}

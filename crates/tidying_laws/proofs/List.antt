@@ -1,5 +1,5 @@
--- The tidier's laws as one list, in the order of their numbers: the one place that names them all. An entry carries its proofs,
--- so that a law more is an entry more; what the tidier applies and what its promises say is read off the list.
+-- The tidier's laws as one list, in the order of their numbers, each with its proofs. What the tidier applies and what its promises
+-- say is in specs/List.antt; `each_law` and `each_words` hold only while both files say the same laws in the same order.
 use Rattle.std.proofs.Math.Option.{Option}
 use Rattle.std.specs.Prelude.{List, [], ◌∷◌, map}
 use Rattle.meaning.specs.Node.{Node}

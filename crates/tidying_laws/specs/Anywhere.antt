@@ -1,4 +1,5 @@
 -- Each law inside any surrounding pattern: what a part becomes is alike there, and the standard's algorithm answers the same.
+-- The definitions stand here; proofs/Anywhere.antt has the theorems.
 use Rattle.std.specs.Prelude.{◌≡◌, ℕ, ◌≤◌}
 use Rattle.meaning.specs.Text.{Input, size}
 use Rattle.meaning.specs.Node.{Node}

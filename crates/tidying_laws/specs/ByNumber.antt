@@ -1,4 +1,5 @@
 -- The laws by their numbers, which count from 1 in the order of the list: no other number has a law.
+-- The definitions stand here; proofs/ByNumber.antt has the theorems.
 use Rattle.std.specs.Prelude.{◌≡◌, ℕ, zero, suc, ◌≤◌, length}
 use Rattle.std.proofs.Math.Option.{Option, none}
 use Rattle.meaning.specs.Node.{Node}

@@ -1,4 +1,5 @@
 -- A law fits exactly where its words apply, and what it makes is what they say.
+-- The definitions stand here; proofs/Exact.antt has the theorems.
 use Rattle.std.proofs.Math.Option.{Option, IsSome}
 use Rattle.meaning.specs.Node.{Node}
 use Rattle.tidying_laws.specs.Kept.{Ok}

@@ -1,4 +1,5 @@
 -- The search for a law: what its first place and lowest law are, when it finds none, and that places are records.
+-- The definitions stand here; proofs/Found.antt has the theorems.
 use Rattle.std.specs.Prelude.{◌≡◌, List, ◌∷◌, ◌++◌, ℕ, ◌+◌, ◌-◌, length, get_or, drop}
 use Rattle.std.proofs.Math.Option.{Option, none, some}
 use Rattle.meaning.specs.Node.{Node}

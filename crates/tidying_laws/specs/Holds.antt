@@ -1,4 +1,5 @@
 -- Each law holds in the outline's words: what a part becomes is alike.
+-- The definitions stand here; proofs/Holds.antt has the theorems.
 use Rattle.meaning.specs.Node.{Node}
 use Rattle.tidying_laws.specs.Groups.{groups, Positive}
 use Rattle.tidying_laws.specs.Alike.{Alike}

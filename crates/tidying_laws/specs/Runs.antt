@@ -1,4 +1,5 @@
 -- The run that T8 takes is the longest, and what is left of it is one alternation.
+-- The definitions stand here; proofs/Runs.antt has the theorems.
 use Rattle.std.specs.Prelude.{◌≡◌, List, ◌++◌, map, ℕ}
 use Rattle.meaning.specs.Node.{Node}
 use Rattle.meaning.specs.All.{All}

@@ -1,4 +1,5 @@
 -- The tidier's theorems: what is tidied is alike, with the same groups and no more rows, and no law fits it anywhere.
+-- The definitions stand here; proofs/Tidy.antt has the theorems.
 use Rattle.std.specs.Prelude.{◌≡◌, ℕ, ◌≤◌, ◌<◌}
 use Rattle.meaning.specs.Node.{Node, Proper}
 use Rattle.meaning.specs.Numbering.{Numbers}

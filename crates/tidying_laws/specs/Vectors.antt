@@ -1,4 +1,5 @@
 -- The tidier on closed patterns. What each becomes is read off the outline.
+-- The definitions stand here; proofs/Vectors.antt has the theorems.
 use Rattle.std.proofs.Math.Decide.{ℕ_discrete}
 use Rattle.sets.specs.Sets.{bit, has}
 use Rattle.tidying_laws.specs.Groups.{groups, group_free}

@@ -1,4 +1,5 @@
 -- What is carried out for the law of each number: the law itself, or a wider rule that several laws have in common.
+-- The definitions stand here; proofs/Carried.antt has the theorems.
 use Rattle.std.specs.Prelude.{◌≡◌, List, ℕ}
 use Rattle.tidying_laws.specs.ByNumber.{law_of, IsLaw}
 use Rattle.tidying_rewriting.specs.Rewriting.{SomeFitting, Rewrites}

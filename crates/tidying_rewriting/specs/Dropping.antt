@@ -1,4 +1,5 @@
 -- T6 and T7: the leftmost alternative that a law looks for goes from an alternation. T7 makes a sequence the empty set.
+-- The definitions stand here; proofs/Dropping.antt has the theorems.
 use Rattle.std.specs.Prelude.{List, []}
 use Rattle.std.proofs.Math.Option.{Option, map}
 use Rattle.meaning.specs.Node.{Node}

@@ -1,4 +1,5 @@
 -- T2 to T5, T9 and T10, laws for a quantifier: its own record goes, or the one of the quantifier inside it, or it becomes empty.
+-- The definitions stand here; proofs/Quantifiers.antt has the theorems.
 use Rattle.std.specs.Prelude.{cond, eqb}
 use Rattle.std.proofs.Math.Option.{some}
 use Rattle.meaning.specs.Node.{Node.empty, Node.many}

@@ -1,5 +1,6 @@
 -- Patterns are rebuilt from their tokens by a machine with a stack: a token takes the parts that it closes off the top, and puts
 -- what they make there. So equal tokens are those of equal patterns.
+-- The definitions stand here; proofs/Parse.antt has the theorems.
 use Rattle.std.specs.Prelude.{cond, List, [], ◌∷◌, ◌++◌, ℕ, ◌-◌, eqb, length, get_or, take, drop}
 use Rattle.std.proofs.Math.Option.{Option, none, some}
 use Rattle.meaning.specs.Node.{Node, Node.empty, Node.bset, Node.assert, Node.group, Node.many}
