@@ -14,21 +14,12 @@ use machine::{
 };
 use meaning::limits::{GROUP_LIMIT, LEAST_ROWS, ROW_LIMIT, ROW_WORDS};
 
-// How many words of a row stand behind its operands: the fourth, and the set.
-const REST: usize = ROW_WORDS - FOURTH;
-
 // Whether a row of a listed kind may be the last: it is Accept, Jump, Fork or End.
 fn may_be_last(kind: u32) -> bool
     requires { listed kind ≡ true }
     ensures { (a b : ℕ) (s : List ℕ) → result ≡ may_be_last (decode_row kind a b s) }
 {
-    match kind {
-        ACCEPT => true,
-        JUMP => true,
-        FORK => true,
-        END => true,
-        _ => false,
-    }
+    matches!(kind, ACCEPT | JUMP | FORK | END)
 }
 
 // Whether a Reset's groups are 1 ≤ lowest ≤ highest ≤ g, or 1, 0 for none.
@@ -38,7 +29,7 @@ fn reset_passes(lowest: u32, highest: u32, n: u32, g: u32) -> bool
     if highest == 0 {
         return lowest == 1;
     }
-    1 <= lowest && lowest <= highest && highest <= g
+    (1..=highest).contains(&lowest) && highest <= g
 }
 
 // The fourth word of a row and its set words, one or another: zero exactly if all are.
@@ -47,8 +38,8 @@ fn rest_of(code: &[u32], start: usize) -> u32
     ensures { eqb result 0 ≡ rest_clean code.now start }
 {
     let mut rest = 0;
-    for i in 0..REST {
-        rest = code[start + (i + FOURTH)] | rest;
+    for word in &code[start + FOURTH..start + ROW_WORDS] {
+        rest = *word | rest;
     }
     rest
 }
@@ -62,6 +53,7 @@ fn row_passes(code: &[u32], q: usize, n: u32, g: u32) -> bool
     let a = code[start + FIRST];
     let b = code[start + SECOND];
     let rest = rest_of(code, start);
+    // A line for each kind, as in the outline's list.
     match code[start] {
         ACCEPT => (a | (b | rest)) == 0,
         CONSUME => (a | (b | code[start + FOURTH])) == 0,
@@ -81,7 +73,7 @@ fn row_passes(code: &[u32], q: usize, n: u32, g: u32) -> bool
 fn header_passes(n: u32, g: u32) -> bool
     ensures { result ≡ header_passes n g }
 {
-    LEAST_ROWS <= n && n <= ROW_LIMIT && g <= GROUP_LIMIT
+    (LEAST_ROWS..=ROW_LIMIT).contains(&n) && g <= GROUP_LIMIT
 }
 
 // Whether code can be run: it has the words of the rows that it says, each row passes, and none is behind the last to fall into.
@@ -103,10 +95,5 @@ pub fn check(code: &[u32]) -> bool
     if (code[HEADER_USED] | rest_of(code, 0)) != 0 {
         return false;
     }
-    for q in 0..rows {
-        if !row_passes(code, q, n, g) {
-            return false;
-        }
-    }
-    may_be_last(code[ROW_WORDS * rows])
+    (0..rows).all(|q| row_passes(code, q, n, g)) && may_be_last(code[ROW_WORDS * rows])
 }

@@ -1,15 +1,44 @@
 -- What `emit` answers and leaves in the code: refusals 15 and 16, or the program. Every case is by the number of rows alone.
-use Rattle.std.specs.Prelude.{◌≡◌, cond, List, ◌++◌, ℕ, ◌+◌, ◌≤◌, ◌<◌, ltb, length, drop}
-use Rattle.std.proofs.Common.{ap, arith, lt-ltb, le-ltb}
+use Rattle.std.specs.Prelude.{◌≡◌, refl, ◌⊎◌, cond, List, ◌++◌, ℕ, ◌+◌, ◌≤◌, ◌<◌, eqb, ltb, length, drop, Result, Ok, Err}
+use Rattle.std.proofs.Common.{sym, ap, ◌∙◌, inl, inr, arith, lt-ltb, le-ltb}
 use Rattle.meaning.specs.Limits.{row_limit, least_rows, code_words}
 use Rattle.meaning.specs.Node.{Node}
+use Rattle.meaning.specs.Refusals as No
+use Rattle.meaning.specs.Refusing.{number_of}
+use Rattle.meaning.specs.declared.refusals.Refusal.{Refusal}
+use Rattle.meaning.specs.declared.refusals.Refusal.TheVariants as Why
 use Rattle.machine.specs.Layout.{size_of, program_of}
 use Rattle.machine.specs.Words.{code_of}
 use Rattle.table.specs.Table.{word_of, size_word}
 use Rattle.table.specs.Roots.{root_size}
 use Rattle.code_rows.specs.Program.{Tabled, Compiling, Compiles}
-use Rattle.code_rows.specs.declared.Emission.{Emission}
-use Rattle.code_rows.specs.declared.Emission.TheVariants.{Rows, TooMany, TooShort}
+
+-- What becomes of a pattern's table: a program of so many rows; too many of them; or code too short for them.
+pub data Emission : Type 0 where
+  Rows : ℕ → Emission
+  TooMany : Emission
+  TooShort : Emission
+
+-- How it is answered, and what an answer says: no other refusal is one.
+abbrev pub answer_of : Emission → Result ℕ Refusal
+answer_of (Rows n) = Ok n
+answer_of TooMany = Err Why.ManyRows
+answer_of TooShort = Err Why.ShortCode
+
+abbrev pub emission_of : Result ℕ Refusal → Emission
+emission_of (Ok n) = Rows n
+emission_of (Err why) = cond (eqb (number_of why) No.many_rows) TooMany TooShort
+
+-- A refusal is one of the two, and says which.
+pub refused_as : {answer : Result ℕ Refusal} {why : Refusal} → answer ≡ answer_of (emission_of answer) → answer ≡ Err why
+    → ((emission_of answer ≡ TooMany) × (why ≡ Why.ManyRows)) ⊎ ((emission_of answer ≡ TooShort) × (why ≡ Why.ShortCode))
+refused_as {answer} {why} e is = go (emission_of answer) refl
+  where
+    go : (x : Emission) → emission_of answer ≡ x
+        → ((emission_of answer ≡ TooMany) × (why ≡ Why.ManyRows)) ⊎ ((emission_of answer ≡ TooShort) × (why ≡ Why.ShortCode))
+    go (Rows n) p = absurd (let no = sym is ∙ e ∙ ap answer_of p in cc)
+    go TooMany p = inl (p, let so = sym is ∙ e ∙ ap answer_of p in cc)
+    go TooShort p = inr (p, let so = sym is ∙ e ∙ ap answer_of p in cc)
 
 -- The number of rows of a pattern's program.
 abbrev pub rows_needed : Node → ℕ

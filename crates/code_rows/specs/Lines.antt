@@ -1,7 +1,7 @@
 -- The rows of parts, one before the other: of two written pieces, of a loop that writes one part again and again, and of a
 -- loop over parts in a row.
 use Rattle.std.specs.Prelude.{◌≡◌, refl, List, [], ◌∷◌, ◌++◌, ℕ, suc, ◌+◌, ◌-◌, ◌*◌, ◌≤◌, ◌<◌, length}
-use Rattle.std.proofs.Common.{sym, ap, subst, ◌∙◌, append_assoc, append-nil, suc-mul, zero-mul, arith}
+use Rattle.std.proofs.Common.{sym, ap, subst, ◌∙◌, append_assoc, append-nil, add-one, suc-mul, zero-mul, mul-le-mul_right, arith}
 use Rattle.meaning.specs.Node.{Node}
 use Rattle.meaning.specs.Results.{concat_map}
 use Rattle.machine.specs.Rows.{Row}
@@ -32,62 +32,50 @@ rows_then front back room w₂ w₁ = wrote_as (then room.long w₂ w₁) refl (
 one_more : (n size : ℕ) → suc n * size ≡ size + n * size
 one_more n size = rw suc-mul (omega arith)
 
-split : (n left : ℕ) → 0 < left → left ≤ n → (left ≡ suc (left - 1)) × (n - (left - 1) ≡ suc (n - left))
-split n left h l = (omega arith, omega arith)
-
--- A loop that writes a part again and again, from the last time back: so often, of n times, are left.
+-- A loop that writes a part again and again, from the last time back: so often, of n times, it is written.
 pub record Looped (need : Node → ℕ) (one : Node → ℕ → List Row) (next : Node → ℕ → ℕ)
-    (table : List ℕ) (top : ℕ) (code₀ code : List ℕ) (n left at end : ℕ) : Type 0 where
-  pub low : left ≤ n
+    (table : List ℕ) (top : ℕ) (code₀ code : List ℕ) (n done at end : ℕ) : Type 0 where
+  pub low : done ≤ n
   pub by : (r : Node) → Part table top r → n * need r ≤ end
-      → (left * need r ≤ at) × Wrote code₀ code at end ((n - left) * need r) (in_words (copies (one r) (next r) (n - left) at))
+      → Wrote code₀ code at end (done * need r) (in_words (copies (one r) (next r) done at))
 
 module _ (need : Node → ℕ) (one : Node → ℕ → List Row) (next : Node → ℕ → ℕ) (steps : (r : Node) (q : ℕ) → next r q ≡ q + need r)
     {table : List ℕ} {top : ℕ} {code₀ : List ℕ} {n end : ℕ} where
-  pub looped_none : Looped need one next table top code₀ code₀ n n end end
-  looped_none =
-      let none : n - n ≡ 0 = omega arith in
-      record { low = omega arith; by = λ r p h. (h, rw (none, zero-mul) (wrote_none code₀ end)) }
+  pub looped_none : Looped need one next table top code₀ code₀ n 0 end end
+  looped_none = record { low = omega arith; by = λ r p h. rw zero-mul (wrote_none code₀ end) }
 
-  module _ {code : List ℕ} {left at : ℕ} (l : Looped need one next table top code₀ code n left at end) where
-    module _ (some : 0 < left) where
+  module _ {code : List ℕ} {done at : ℕ} (l : Looped need one next table top code₀ code n done at end) where
+    module _ (some : done < n) where
       room_for_lem : (r : Node) → Part table top r → n * need r ≤ end → need r ≤ at
-      room_for_lem r p h =
-          let e : left * need r ≡ need r + (left - 1) * need r
-          = ap (λ k. k * need r) (split n left some l.low).0 ∙ one_more (left - 1) (need r) in
-          omega (arith, (l.by r p h).0)
+      room_for_lem r p h = omega (arith, (l.by r p h).counts, one_more done (need r), mul-le-mul_right (need r) some)
 
       pub looped_asks : Asks (λ r. n * need r) table top code₀ end → Asks need table top code at
       looped_asks a = record {
         node = a.node;
         part = a.part;
         fits = room_for_lem a.node a.part a.fits;
-        room = room_before (l.by a.node a.part a.fits).1 a.room;
+        room = room_before (l.by a.node a.part a.fits) a.room;
       }
 
       pub looped_more : {code' : List ℕ} {at' : ℕ} → Room code₀ end → Lays need one table top code code' at' at
-          → Looped need one next table top code₀ code' n (left - 1) at' end
+          → Looped need one next table top code₀ code' n (done + 1) at' end
       looped_more {code'} {at'} room lays =
-          let (e₁, e₂) = split n left some l.low in
-          let turn : (r : Node) → Part table top r → n * need r ≤ end → ((left - 1) * need r ≤ at')
-          × Wrote code₀ code' at' end (suc (n - left) * need r) (in_words (copies (one r) (next r) (suc (n - left)) at'))
+          let turn : (r : Node) → Part table top r → n * need r ≤ end
+          → Wrote code₀ code' at' end (suc done * need r) (in_words (copies (one r) (next r) (suc done) at'))
           = λ r p h.
           let w : Wrote code code' at' at (need r) (in_words (one r at')) = lays.by r p (room_for_lem r p h) in
-          let all : left * need r ≡ need r + (left - 1) * need r = ap (λ k. k * need r) e₁ ∙ one_more (left - 1) (need r) in
           let goes : at ≡ next r at' = sym (steps r at' ∙ w.counts) in
-          let after : List Row = copies (one r) (next r) (n - left) at in (
-            omega (arith, (l.by r p h).0, w.counts),
-            wrote_as (rows_then (one r at') after room (l.by r p h).1 w) (sym (one_more (n - left) (need r)))
-                (ap (λ q. in_words (one r at' ++ copies (one r) (next r) (n - left) q)) goes),
-          ) in
-          record { low = omega (arith, l.low); by = rw e₂ turn }
+          let after : List Row = copies (one r) (next r) done at in
+          wrote_as (rows_then (one r at') after room (l.by r p h) w) (sym (one_more done (need r)))
+          (ap (λ q. in_words (one r at' ++ copies (one r) (next r) done q)) goes) in
+          record { low = omega arith; by = rw add-one turn }
 
-    pub looped_done : left ≤ 0 → Lays (λ r. n * need r) (λ r q. copies (one r) (next r) n q) table top code₀ code at end
+    pub looped_done : n ≤ done → Lays (λ r. n * need r) (λ r q. copies (one r) (next r) n q) table top code₀ code at end
     looped_done h =
-        let all : n - left ≡ n = omega (arith, l.low) in
+        let all : done ≡ n = omega (arith, l.low) in
         record {
           by = λ r p f.
-              subst (λ k. Wrote code₀ code at end (k * need r) (in_words (copies (one r) (next r) k at))) all (l.by r p f).1;
+              subst (λ k. Wrote code₀ code at end (k * need r) (in_words (copies (one r) (next r) k at))) all (l.by r p f);
         }
 
 -- The sizes of parts together.
@@ -104,33 +92,37 @@ abbrev pub line_rows : (Node → ℕ) → (Node → ℕ → List Row) → List N
 line_rows need one [] q = []
 line_rows need one (r ∷ l) q = one r q ++ line_rows need one l (q + need r)
 
--- A loop over parts in a row, from the last one back: those in front are left.
+-- A loop over parts in a row, from the last one back: those in front are left, and with those counted they are all the items.
 pub record Lined (need : Node → ℕ) (one : Node → ℕ → List Row)
-    (table : List ℕ) (code₀ code : List ℕ) (item left at end : ℕ) (l : List Node) : Type 0 where
+    (table : List ℕ) (code₀ code : List ℕ) (item items counted at end : ℕ) (l : List Node) : Type 0 where
   pub front : List Node
   pub done : List Node
   pub are : l ≡ front ++ done
+  pub left : ℕ
+  pub together : counted + left ≡ items
   pub rest : Rest table item left front
   pub fits : total need front ≤ at
   pub wrote : Wrote code₀ code at end (total need done) (in_words (line_rows need one done at))
 
-pub lined_none : {need : Node → ℕ} {one : Node → ℕ → List Row} {table : List ℕ} {item left : ℕ} {l : List Node}
+pub lined_none : {need : Node → ℕ} {one : Node → ℕ → List Row} {table : List ℕ} {item items counted left : ℕ} {l : List Node}
     (code₀ : List ℕ) (end : ℕ)
-    → Rest table item left l → total need l ≤ end → Lined need one table code₀ code₀ item left end end l
-lined_none {l = l} code₀ end rest h = record {
+    → Rest table item left l → counted + left ≡ items → total need l ≤ end → Lined need one table code₀ code₀ item items counted end end l
+lined_none {left = left} {l = l} code₀ end rest all h = record {
   front = l;
   done = [];
   are = sym (append-nil l);
+  left = left;
+  together = all;
   rest = rest;
   fits = h;
   wrote = wrote_none code₀ end;
 }
 
-module _ {need : Node → ℕ} {one : Node → ℕ → List Row} {table code₀ code : List ℕ} {item left at end : ℕ} {l : List Node}
-    (s : Lined need one table code₀ code item left at end l) where
-  module _ (some : 0 < left) where
-    abbrev next : Last table item left s.front
-    next = the_last s.rest some
+module _ {need : Node → ℕ} {one : Node → ℕ → List Row} {table code₀ code : List ℕ} {item items counted at end : ℕ} {l : List Node}
+    (s : Lined need one table code₀ code item items counted at end l) where
+  module _ (some : counted < items) where
+    abbrev next : Last table item s.left s.front
+    next = the_last s.rest (omega (arith, s.together))
 
     fits_next : total need next.front + need next.node ≤ at
     fits_next = omega (arith, total_last need next.front next.node, ap (total need) next.are, s.fits)
@@ -148,7 +140,7 @@ module _ {need : Node → ℕ} {one : Node → ℕ → List Row} {table code₀ 
     lined_low = ((part_some next.part).0, (part_some next.part).1, records_low next.part)
 
     pub lined_more : {code' : List ℕ} {at' : ℕ} → Room code₀ end → Lays need one table item code code' at' at
-        → Lined need one table code₀ code' (item - word_of table item records_word) (left - 1) at' end l
+        → Lined need one table code₀ code' (item - word_of table item records_word) items (counted + 1) at' end l
     lined_more {code'} {at'} room lays =
         let r : Node = next.node in
         let w : Wrote code code' at' at (need r) (in_words (one r at')) = lays.by r next.part (omega (arith, fits_next)) in
@@ -156,16 +148,18 @@ module _ {need : Node → ℕ} {one : Node → ℕ → List Row} {table code₀ 
           front = next.front;
           done = r ∷ s.done;
           are = s.are ∙ ap (λ f. f ++ s.done) next.are ∙ append_assoc next.front (r ∷ []) s.done;
+          left = s.left - 1;
+          together = omega (arith, s.together);
           rest = next.rest;
           fits = omega (arith, fits_next, w.counts);
           wrote = wrote_as (rows_then (one r at') (line_rows need one s.done at) room s.wrote w) refl
               (ap (λ q. in_words (one r at' ++ line_rows need one s.done q)) (sym w.counts));
         }
 
-  pub lined_done : left ≤ 0 → Wrote code₀ code at end (total need l) (in_words (line_rows need one l at))
+  pub lined_done : items ≤ counted → Wrote code₀ code at end (total need l) (in_words (line_rows need one l at))
   lined_done h = go s.front s.are s.rest
     where
-      go : (f : List Node) → l ≡ f ++ s.done → Rest table item left f
+      go : (f : List Node) → l ≡ f ++ s.done → Rest table item s.left f
           → Wrote code₀ code at end (total need l) (in_words (line_rows need one l at))
       go [] e t = wrote_as s.wrote (ap (total need) (sym e)) (ap (λ m. in_words (line_rows need one m at)) (sym e))
-      go (r ∷ f) e t = absurd (omega (arith, t.series.counted))
+      go (r ∷ f) e t = absurd (omega (arith, s.together, t.series.counted))

@@ -10,11 +10,12 @@ ghost use Rattle.table.specs.Table.{kind_word, group_kind, sequence_kind, altern
 ghost use Rattle.code_words.specs.Wrote.{Room, Wrote};
 ghost use Rattle.code_rows.specs.Lines.{in_words};
 ghost use Rattle.code_rows.specs.Program.{prefix_rows, Compiling, Compiles};
-ghost use Rattle.code_rows.specs.Emission.{SomeTabled, Emits};
+ghost use Rattle.code_rows.specs.Emission.{SomeTabled, Emits, answer_of, emission_of};
 
 use code_words::{consuming, place, plain, put_before, row_before};
 use machine::{ACCEPT, ASSERT, BEGIN, CLOSE, END, FORK, JUMP, MATCH_ROW, OPEN, RESET};
 use meaning::limits::{LEAST_ROWS, NO_MAXIMUM, ROW_LIMIT, ROW_WORDS};
+use meaning::refusals::Refusal;
 use table::{
     ALTERNATION, ASSERTION, BYTE_SET, EMPTY, GROUP, HIGHEST, ITEMS, KIND, LAZY, LEAST, LOWEST,
     MOST, OPERAND, QUANTIFIER, SEQUENCE, SIZE, last_words, previous, word,
@@ -59,13 +60,12 @@ fn sequence(table: &[u32], top: usize, code: &mut [u32], end: usize) -> usize
     requires { Asks size_of table.now top code.old end × (word_of table.now top kind_word ≡ sequence_kind) }
     ensures { Lays size_of rows_of table.now top code.old code.new result end }
 {
-    let mut left = word(table, top, ITEMS);
+    let items = word(table, top, ITEMS);
     let mut item = top - 1;
     let mut at = end;
-    while 0 < left {
+    for _ in 0..items {
         at = part(table, item, code, at);
         item = previous(table, item);
-        left -= 1;
     }
     at
 }
@@ -76,14 +76,13 @@ fn alternation(table: &[u32], top: usize, code: &mut [u32], end: usize) -> usize
     requires { Asks size_of table.now top code.old end × (word_of table.now top kind_word ≡ alternation_kind) }
     ensures { Lays size_of rows_of table.now top code.old code.new result end }
 {
-    let mut left = word(table, top, ITEMS) - 1;
+    let items = word(table, top, ITEMS);
     let last = top - 1;
     let mut at = part(table, last, code, end);
     let mut item = previous(table, last);
-    while 0 < left {
+    for _ in 1..items {
         at = alternative(table, item, end as u32, code, at);
         item = previous(table, item);
-        left -= 1;
     }
     at
 }
@@ -143,11 +142,9 @@ fn repeats(table: &[u32], top: usize, n: u32, code: &mut [u32], end: usize) -> u
     ensures { Lays (repeats_size n) (repeats_rows n) table.now top
         code.old code.new result end }
 {
-    let mut left = n;
     let mut at = end;
-    while 0 < left {
+    for _ in 0..n {
         at = fresh(table, top, code, at);
-        left -= 1;
     }
     at
 }
@@ -183,11 +180,9 @@ fn turns(table: &[u32], top: usize, lazy: bool, n: u32, code: &mut [u32], end: u
     ensures { Lays (turns_size n) (turns_of lazy end n) table.now top
         code.old code.new result end }
 {
-    let mut left = n;
     let mut at = end;
-    while 0 < left {
+    for _ in 0..n {
         at = turn(table, top, lazy, end as u32, at as u32, code, at);
-        left -= 1;
     }
     at
 }
@@ -218,26 +213,20 @@ pub fn write_program(table: &[u32], records: usize, groups: u32, code: &mut [u32
     place(code, 0, plain(n, groups, 0));
 }
 
-// What becomes of a pattern's table: a program of so many rows; too many of them; or code too short for them.
-#[derive(Drop)]
-pub enum Emission {
-    Rows(u32),
-    TooMany,
-    TooShort,
-}
-
-// The program of the pattern whose records are the table's first, unless it has too many rows or the code is too short.
-pub fn emit(table: &[u32], records: usize, groups: u32, code: &mut [u32]) -> Emission
+// The program of the pattern whose records are the table's first, and its number of rows, unless they are too many or the code
+// is too short for them.
+pub fn emit(table: &[u32], records: usize, groups: u32, code: &mut [u32]) -> Result<u32, Refusal>
     requires { SomeTabled table.now records }
-    ensures { Emits table.now records groups code.old code.new result }
+    ensures emits { Emits table.now records groups code.old code.new (emission_of result) }
+    ensures refusals { result ≡ answer_of (emission_of result) }
 {
     let n = LEAST_ROWS + word(table, records, SIZE);
     if ROW_LIMIT < n {
-        return Emission::TooMany;
+        return Err(Refusal::ManyRows);
     }
     if code.len() < ROW_WORDS * (n as usize + 1) {
-        return Emission::TooShort;
+        return Err(Refusal::ShortCode);
     }
     write_program(table, records, groups, code);
-    Emission::Rows(n)
+    Ok(n)
 }

@@ -26,9 +26,7 @@ pub fn consuming(set: [u32; SET_WORDS]) -> [u32; ROW_WORDS]
     ensures { result ≡ consume_kind ∷ 0 ∷ 0 ∷ 0 ∷ set }
 {
     let mut row = plain(CONSUME, 0, 0);
-    for i in 0..SET_WORDS {
-        row[machine::SET + i] = set[i];
-    }
+    row[machine::SET..].copy_from_slice(&set);
     row
 }
 
@@ -38,9 +36,7 @@ pub fn place(code: &mut [u32], start: usize, row: [u32; ROW_WORDS])
     ensures { code.new ≡ take start code.old ++
         (row ++ drop (start + row_words) code.old) }
 {
-    for i in 0..ROW_WORDS {
-        code[start + i] = row[i];
-    }
+    code[start..start + ROW_WORDS].copy_from_slice(&row);
 }
 
 // Writes a row before row `end`.

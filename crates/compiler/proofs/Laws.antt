@@ -1,9 +1,13 @@
 -- What `compile` and `compile_tidied` do meets their promise.
 use Rattle.std.proofs.Math.Path.{◌≡◌, refl, sym, ap, ap₂}
-use Rattle.std.proofs.Common.{◌∙◌, arith, lt-ltb, le-ltb, ltb-true, ltb-false}
-use Rattle.std.specs.Prelude.{Bool, true, false, cond, List, ◌++◌, ℕ, zero, suc, ◌+◌, ◌*◌, ◌-◌, ◌≤◌, ◌<◌, min, ltb, length, take, replicate}
+use Rattle.std.proofs.Common.{◌∙◌, subst, arith, lt-ltb, le-ltb, ltb-true, ltb-false}
+use Rattle.std.specs.Prelude.{Bool, true, false, cond, List, ◌++◌, ℕ, zero, suc, ◌+◌, ◌*◌, ◌-◌, ◌≤◌, ◌<◌, min, ltb, length, take, replicate, Err}
+use mathlib.Core.Logic.{⊎_elim}
 use Rattle.meaning.specs.Limits.{row_limit, least_rows, code_words}
 use Rattle.meaning.specs.Refusals as No
+use Rattle.meaning.specs.Refusing.{number_of}
+use Rattle.meaning.specs.declared.refusals.Refusal.{Refusal}
+use Rattle.meaning.specs.declared.refusals.Refusal.TheVariants as Why
 use Rattle.meaning.specs.Node.{Node, Proper}
 use Rattle.meaning.specs.Numbering.{Numbers}
 use Rattle.machine.specs.Layout.{size_of}
@@ -13,20 +17,18 @@ use Rattle.table.specs.Roots.{root_derived, some_records, few_records_lem}
 use Rattle.table.specs.declared.Derived.{Derived}
 use Rattle.tidying_laws.proofs.Tidy.{tidy_rows, tidy_numbers, tidy_proper}
 use Rattle.reading_items.specs.Reading.{Reading, Reading.pattern, Reading.refused, reading, table_by, table_after}
-use Rattle.reading.specs.Answers.{Reads, answer_of}
-use Rattle.reading.specs.declared.Reading.{Reading as Answer}
-use Rattle.reading.specs.declared.Reading.TheVariants.{Pattern, Refused as Turned}
+use Rattle.reading.specs.Answers.{Reads, answer_of, Reading as Answer, Reading.Pattern, Reading.Turned}
 use Rattle.code_rows.specs.Program.{Tabled}
+use Rattle.code_rows.specs.Emission.{Emission, Rows as Emitted, TooMany, TooShort, emission_of, refused_as}
+use Rattle.code_rows.specs.Emission.{answer_of as answer_by_emit}
 use Rattle.code_rows.specs.Emission.{emission, code_emitted, SomeTabled, Emits, rows_needed}
-use Rattle.code_rows.specs.declared.Emission.{Emission}
-use Rattle.code_rows.specs.declared.Emission.TheVariants.{Rows as Emitted, TooMany, TooShort}
 use Rattle.tidying.specs.Held.{Held, SomeHeld, table_of, Tidies}
 use Rattle.compiler.specs.Compiling.{shaped, unwritten, table_for, code_for, answer_by, table_left, code_left}
 use Rattle.compiler.specs.Compiling.{Compiles}
 use Rattle.compiler.specs.Programs.{Stored, SomeStored, TellsRows, Shapes, Cleared, Programs}
 use Rattle.compiler.specs.Given.{Given}
-use Rattle.compiler.specs.declared.Compilation.{Compilation}
-use Rattle.compiler.specs.declared.Compilation.TheVariants.{Rows, Refused}
+use Rattle.compiler.specs.Steps.{Fitting, Written, WrittenBy}
+use Rattle.compiler.specs.Compiling.{Compilation, Compilation.Rows, Compilation.Refused}
 
 -- ---- the pattern in the table
 
@@ -194,6 +196,30 @@ module _ {tidying : Bool} {table : List ℕ} {n : ℕ} where
             };
       }
 
+-- What was written from the pattern that becomes rows is its program.
+module _ {tidying : Bool} {table table₁ table' : List ℕ} {n left g : ℕ} {code code' : List ℕ} {answer : Compilation}
+    (few : TellsRows false table n) (same : length table₁ ≡ length table) (s : Shapes tidying table table₁ n left) where
+  pub written_programs : Written table₁ table' left g code code' answer → Programs tidying table table' n g code code' answer
+  written_programs w = go w.emitted w.emits w.by
+    where
+      go : (x : Emission) → Emits table₁ left g code code' x → WrittenBy x table₁ table' g answer
+          → Programs tidying table table' n g code code' answer
+      go (Emitted m) e b = rw (b.0, b.1) (written few refl same s e refl)
+      go TooMany e b = never_many few refl same s e refl
+      go TooShort e b = too_short few refl same s e refl b
+
+-- A program that was refused is refused by the ground that `emit` says.
+pub written_refused : (g : ℕ) {why : Refusal} {table table' : List ℕ} {answer : Compilation}
+    → Err why ≡ answer_by_emit (emission_of (Err why)) → Cleared (number_of why) table table' answer
+    → WrittenBy (emission_of (Err why)) table table' g answer
+written_refused g {why} {table} {table'} {answer} e c =
+    let as_said : (y : Refusal) → why ≡ y → Cleared (number_of y) table table' answer
+    = λ y p. subst (λ (x : Refusal). Cleared (number_of x) table table' answer) p c in
+    ⊎_elim
+    (λ w. subst (λ (x : Emission). WrittenBy x table table' g answer) (sym w.0) (as_said Why.ManyRows w.1))
+    (λ w. subst (λ (x : Emission). WrittenBy x table table' g answer) (sym w.0) (as_said Why.ShortCode w.1))
+    (refused_as e refl)
+
 -- ---- the call
 
 -- What is left of a table depends on its length alone.
@@ -236,3 +262,9 @@ module _ {tidying : Bool} {s table table' : List ℕ} where
             ∙ ap (λ y. table_left tidying y (length code) table) back;
         code_is = made.code_is ∙ ap (λ y. code_left tidying y code) back;
       }
+
+  -- A pattern that was read and has few enough rows, and what was written of what it is shaped to.
+  pub compiled : {table₁ table₂ code code' : List ℕ} {top left g : ℕ} {answer : Compilation} → Fitting s table table₁ top g
+      → length table₂ ≡ length table₁ → Shapes tidying table₁ table₂ top left → Written table₂ table' left g code code' answer
+      → Compiles tidying s table table' code code' answer
+  compiled f same shapes w = programmed f.same f.given (written_programs f.few same shapes w)

@@ -1,5 +1,5 @@
 -- What `compile` and `compile_tidied` answer and leave behind, for every pattern, table and code. Definitions only.
-use Rattle.std.specs.Prelude.{◌≡◌, Bool, true, false, cond, List, [], ◌∷◌, ◌++◌, ℕ, zero, suc, ltb, length, drop, replicate}
+use Rattle.std.specs.Prelude.{◌≡◌, Bool, true, false, cond, Result, Ok, Err, List, [], ◌∷◌, ◌++◌, ℕ, zero, suc, ltb, length, drop, replicate}
 use Rattle.meaning.specs.Limits.{row_limit, code_words}
 use Rattle.meaning.specs.Refusals as No
 use Rattle.meaning.specs.Grounds.{Ground, ground, first_of}
@@ -9,8 +9,18 @@ use Rattle.machine.specs.Words.{code_of}
 use Rattle.tidying_laws.specs.Tidier.{tidy}
 use Rattle.reading_items.specs.Reading.{Reading, Reading.pattern, Reading.refused, reading, table_by}
 use Rattle.code_rows.specs.Emission.{rows_needed}
-use Rattle.compiler.specs.declared.Compilation.{Compilation}
-use Rattle.compiler.specs.declared.Compilation.TheVariants.{Rows, Refused}
+use Rattle.meaning.specs.Refusing.{number_of}
+use Rattle.meaning.specs.declared.refusals.Refused.{Refused as Turned}
+use Rattle.compiler.specs.declared.Program.{Program}
+
+-- What a pattern's compilation answers: its program's rows and groups, or a refusal's number and place.
+pub data Compilation : Type 0 where
+  Rows : ℕ → ℕ → Compilation
+  Refused : ℕ → ℕ → Compilation
+
+abbrev pub compilation_of : Result Program Turned → Compilation
+compilation_of (Ok p) = Rows p.rows p.groups
+compilation_of (Err e) = Refused (number_of e.why) e.place
 
 -- Whether the pattern is tidied before it becomes rows, and the pattern that becomes rows.
 abbrev pub plain : Bool

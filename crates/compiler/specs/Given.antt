@@ -14,9 +14,7 @@ use Rattle.reading_items.specs.Kept.{Read}
 use Rattle.reading_items.specs.Read.{atom_laws, what_is_read}
 use Rattle.reading_items.specs.Reading.{Reading, Reading.pattern, Reading.refused, alternatives_at, whole, first_high, reading}
 use Rattle.reading_items.specs.Reading.{table_by, table_after}
-use Rattle.reading.specs.Answers.{Reads, answer_of}
-use Rattle.reading.specs.declared.Reading.{Reading as Answer}
-use Rattle.reading.specs.declared.Reading.TheVariants.{Pattern, Refused as Turned}
+use Rattle.reading.specs.Answers.{Reads, answer_of, Reading as Answer, Reading.Pattern, Reading.Turned}
 use Rattle.reading_grammar.specs.Grammar.{Derives}
 use Rattle.reading_grammar.proofs.Sound.{sound}
 use Rattle.tidying.specs.Held.{table_of}

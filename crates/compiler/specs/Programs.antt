@@ -5,8 +5,7 @@ use Rattle.meaning.specs.Node.{Node}
 use Rattle.tidying.specs.Held.{Held, table_of}
 use Rattle.code_rows.specs.Emission.{rows_needed}
 use Rattle.compiler.specs.Compiling.{shaped, unwritten, answer_for, table_for, code_for}
-use Rattle.compiler.specs.declared.Compilation.{Compilation}
-use Rattle.compiler.specs.declared.Compilation.TheVariants.{Refused}
+use Rattle.compiler.specs.Compiling.{Compilation, Compilation.Refused}
 
 -- A pattern stored in a table: its records are the first n, behind them all is zero, and there is room for what it is tidied
 -- to; it was read from p bytes or fewer, and g is the number that a next group would have.

@@ -1,29 +1,32 @@
 // From a pattern's bytes to the code of its program, or to the outline's refusal: of the pattern as it was read, or tidied.
 #![tactic(auto)]
 
-ghost use Rattle.compiler.specs.Compiling.{plain, tidied, Compiles};
-ghost use Rattle.compiler.specs.Programs.{SomeStored, TellsRows, Shapes, Cleared, Programs};
+ghost use Rattle.std.specs.Prelude.{Err};
+ghost use Rattle.meaning.specs.Refusing.{number_of};
+ghost use Rattle.compiler.specs.Compiling.{plain, tidied, compilation_of, Compiles};
+ghost use Rattle.code_rows.specs.Emission.{SomeTabled};
+ghost use Rattle.compiler.specs.Programs.{SomeStored, TellsRows, Cleared};
+ghost use Rattle.compiler.specs.Steps.{Small, Written};
 
-use code_rows::Emission;
 use meaning::limits::{LEAST_ROWS, ROW_LIMIT};
-use meaning::refusals::{MANY_ROWS, SHORT_CODE};
-use reading::Reading;
+use meaning::refusals::{Refusal, Refused};
+use reading::Pattern;
 use reading_items::clear;
 use tidying::tidy;
 
-// What a pattern's compilation answers.
-#[derive(Drop)]
-pub enum Compilation {
-    Rows { rows: u32, groups: u32 },
-    Refused { number: u32, place: usize },
+// A program that was written: its rows in the code, and its groups.
+#[derive(Clone, Copy, Debug, PartialEq, Eq)]
+pub struct Program {
+    pub rows: u32,
+    pub groups: u32,
 }
 
 // A pattern that was read and has no program: its table is made zero.
-fn without_program(table: &mut [u32], number: u32) -> Compilation
-    ensures { Cleared number table.old table.new result }
+fn without_program(table: &mut [u32], why: Refusal) -> Refused
+    ensures { Cleared (number_of why) table.old table.new (compilation_of (Err result)) }
 {
     clear(table, 0);
-    Compilation::Refused { number, place: 0 }
+    why.into()
 }
 
 // Whether the pattern that is stored in a table has too many rows. What is asked: that there is such a pattern.
@@ -32,66 +35,55 @@ fn many_rows(table: &[u32], records: usize) -> bool
     ensures { TellsRows result table.now records }
 {
     let whole = table::root(table, records);
-    ROW_LIMIT < LEAST_ROWS + whole.size
+    LEAST_ROWS + whole.size > ROW_LIMIT
 }
 
-// The pattern that becomes rows is stored in the place of the one that was read. Answers how many records it has.
-fn shape(tidying: bool, table: &mut [u32], records: usize) -> usize
-    requires { SomeStored table.old records }
-    ensures { Shapes tidying table.old table.new records result }
+// A pattern that is read and has few enough rows: 15 is by its own rows, also where it is tidied afterwards.
+fn read_small(pattern: &[u8], table: &mut [u32]) -> Result<Pattern, Refused>
+    ensures { Small pattern.now table.old table.new result }
 {
-    if tidying {
-        return tidy(table, records);
+    let read = reading::read(pattern, table)?;
+    if many_rows(table, read.records) {
+        return Err(without_program(table, Refusal::ManyRows));
     }
-    records
+    Ok(read)
 }
 
-// The program of a pattern that was read: 15 is by its own rows, and 16 by the rows of what it is shaped to.
-fn program(
-    tidying: bool,
+// The program of the pattern that a table holds: 16 is by the rows of that one.
+fn write_program(
     table: &mut [u32],
     records: usize,
     groups: u32,
     code: &mut [u32],
-) -> Compilation
-    requires { SomeStored table.old records }
-    ensures { Programs tidying table.old table.new records groups code.old
-        code.new result }
+) -> Result<Program, Refused>
+    requires { SomeTabled table.old records }
+    ensures { Written table.old table.new records groups code.old code.new (compilation_of result) }
 {
-    if many_rows(table, records) {
-        return without_program(table, MANY_ROWS);
-    }
-    let left = shape(tidying, table, records);
-    match code_rows::emit(table, left, groups, code) {
-        Emission::Rows(rows) => Compilation::Rows { rows, groups },
-        Emission::TooMany => without_program(table, MANY_ROWS),
-        Emission::TooShort => without_program(table, SHORT_CODE),
-    }
-}
-
-// Any pattern, table and code, tidied or plain.
-fn compile_as(tidying: bool, pattern: &[u8], table: &mut [u32], code: &mut [u32]) -> Compilation
-    ensures { Compiles tidying pattern.now table.old table.new code.old
-        code.new result }
-{
-    match reading::read(pattern, table) {
-        Reading::Refused { number, place } => Compilation::Refused { number, place },
-        Reading::Pattern { records, groups } => program(tidying, table, records, groups, code),
+    match code_rows::emit(table, records, groups, code) {
+        Ok(rows) => Ok(Program { rows, groups }),
+        Err(why) => Err(without_program(table, why)),
     }
 }
 
 // Refusals 1 to 3 leave the table alone, the others make it zero, and all leave the code alone.
-pub fn compile(pattern: &[u8], table: &mut [u32], code: &mut [u32]) -> Compilation
+pub fn compile(pattern: &[u8], table: &mut [u32], code: &mut [u32]) -> Result<Program, Refused>
     ensures { Compiles plain pattern.now table.old table.new code.old
-        code.new result }
+        code.new (compilation_of result) }
 {
-    compile_as(false, pattern, table, code)
+    let read = read_small(pattern, table)?;
+    write_program(table, read.records, read.groups, code)
 }
 
 // Refusals are those of the plain pattern, but 16 is by the rows of the tidied one.
-pub fn compile_tidied(pattern: &[u8], table: &mut [u32], code: &mut [u32]) -> Compilation
+pub fn compile_tidied(
+    pattern: &[u8],
+    table: &mut [u32],
+    code: &mut [u32],
+) -> Result<Program, Refused>
     ensures { Compiles tidied pattern.now table.old table.new code.old
-        code.new result }
+        code.new (compilation_of result) }
 {
-    compile_as(true, pattern, table, code)
+    let read = read_small(pattern, table)?;
+    let records = tidy(table, read.records);
+    write_program(table, records, read.groups, code)
 }

@@ -25,12 +25,12 @@ use Rattle.running_moves.specs.Ready.{Ready, ready}
 use Rattle.reading_grammar.proofs.Sound.{Sound, sound}
 use Rattle.tidying_laws.specs.Tidier.{tidy}
 use Rattle.compiler.specs.Compiling.{plain, tidied, Compiles}
-use Rattle.compiler.specs.declared.Compilation.{Compilation}
-use Rattle.compiler.specs.declared.Compilation.TheVariants.{Rows}
+use Rattle.compiler.specs.Compiling.{Compilation}
+use Rattle.compiler.specs.Compiling.{Compilation.Rows}
 use Rattle.repetition.specs.Listings.{listing_values, lent_all, repetition_grounds, repetition_refusal, words_of, list_grounds, listing_to}
 use Rattle.repetition.specs.Listings.{spans_of, list_from, Lists}
-use Rattle.repetition.specs.declared.Listing.{Listing}
-use Rattle.repetition.specs.declared.Listing.TheVariants.{Listed, Short, Refused}
+use Rattle.repetition.specs.Listings.{Listing}
+use Rattle.repetition.specs.Listings.{Listing.Listed, Listing.Short, Listing.Refused}
 use Rattle.millkettle.specs.Compiled.{Coded, Compiled, compiled}
 use Rattle.millkettle.specs.Laws.{Way.searching, finds}
 use Rattle.demands.proofs.Runs.{coded_as, rows_bytes}

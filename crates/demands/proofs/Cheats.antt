@@ -16,10 +16,10 @@ use Rattle.machine.specs.Replies.{Reply, Reply.found, Reply.missing, Reply.refus
 use Rattle.machine.specs.Replies.{answer_of, reply_to, reply, spans, registers_after}
 use Rattle.reading_items.specs.Reading.{Reading.pattern, sequence_go, alternatives_go, reading}
 use Rattle.compiler.specs.Compiling.{plain, table_at, code_at, Compiles}
-use Rattle.compiler.specs.declared.Compilation.TheVariants.{Rows}
+use Rattle.compiler.specs.Compiling.{Compilation.Rows}
 use Rattle.engine.specs.Answers.{reply_of, executed, Answered}
-use Rattle.engine.specs.declared.Answer.{Answer}
-use Rattle.engine.specs.declared.Answer.TheVariants.{Found, Missing, Refused}
+use Rattle.engine.specs.Answers.{Answer}
+use Rattle.engine.specs.Answers.{Answer.Found, Answer.Missing, Answer.Refused}
 use Rattle.millkettle.specs.Laws.{Way, Way.matching, Way.searching, row_of, standard_by}
 use Rattle.demands.specs.Impossible.{table, code, registers, workspace, no_bytes_lem, one_byte}
 use Rattle.demands.specs.Runs.{answer_as, SomeStandard}

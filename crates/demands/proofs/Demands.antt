@@ -22,14 +22,14 @@ use Rattle.machine.specs.Repetition.{repetition, executed_in}
 use Rattle.tidying_laws.specs.List.{becomes}
 use Rattle.reading_grammar.specs.Grammar.{Derives}
 use Rattle.compiler.specs.Compiling.{plain, tidied, shaped, Compiles}
-use Rattle.compiler.specs.declared.Compilation.{Compilation}
-use Rattle.compiler.specs.declared.Compilation.TheVariants.{Rows, Refused as Unread}
+use Rattle.compiler.specs.Compiling.{Compilation}
+use Rattle.compiler.specs.Compiling.{Compilation.Rows, Compilation.Refused as Unread}
 use Rattle.engine.specs.Answers.{reply_of, executed, Answered}
-use Rattle.engine.specs.declared.Answer.{Answer}
-use Rattle.engine.specs.declared.Answer.TheVariants.{Refused}
+use Rattle.engine.specs.Answers.{Answer}
+use Rattle.engine.specs.Answers.{Answer.Refused}
 use Rattle.repetition.specs.Listings.{listing_values, lent_all, repetition_refusal, words_of, list_grounds, spans_of, Lists}
-use Rattle.repetition.specs.declared.Listing.{Listing}
-use Rattle.repetition.specs.declared.Listing.TheVariants.{Listed, Short, Refused as Unlisted}
+use Rattle.repetition.specs.Listings.{Listing}
+use Rattle.repetition.specs.Listings.{Listing.Listed, Listing.Short, Listing.Refused as Unlisted}
 use Rattle.millkettle.specs.Laws.{Way, row_of, standard_by}
 use Rattle.intake_report.specs.Texts.{header_line}
 use Rattle.intake_report.specs.Lines.{lines_of}

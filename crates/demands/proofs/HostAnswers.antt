@@ -17,7 +17,7 @@ use Rattle.machine.specs.Replies.{Lent, run_of, reply_to, spans}
 use Rattle.running_moves.specs.Ready.{Ready, ready}
 use Rattle.reading_grammar.specs.Grammar.{Derives}
 use Rattle.compiler.specs.Compiling.{shaped}
-use Rattle.compiler.specs.declared.Compilation.TheVariants.{Rows}
+use Rattle.compiler.specs.Compiling.{Compilation.Rows}
 use Rattle.millkettle.specs.Compiled.{Coded}
 use Rattle.millkettle.specs.Laws.{Way, row_of, standard_by, finds}
 use Rattle.wire.specs.Wire.{bytes_of_words, bytes_of_ints, written}

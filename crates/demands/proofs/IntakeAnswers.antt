@@ -28,7 +28,7 @@ use Rattle.reading_items.specs.Reading.{reading}
 use Rattle.reading_grammar.specs.Grammar.{Derives}
 use Rattle.reading_grammar.proofs.Sound.{Sound, sound}
 use Rattle.compiler.specs.Compiling.{plain, answer_by, code_left}
-use Rattle.compiler.specs.declared.Compilation.TheVariants.{Rows}
+use Rattle.compiler.specs.Compiling.{Compilation.Rows}
 use Rattle.millkettle.specs.Compiled.{Coded, Compiled}
 use Rattle.millkettle.specs.Compiled as Millkettle
 use Rattle.millkettle.specs.Laws.{Way.searching, conditions, finds}

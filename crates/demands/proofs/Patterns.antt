@@ -19,8 +19,8 @@ use Rattle.reading_grammar.proofs.First.{refused_first, first_refused, read_none
 use Rattle.code_rows.specs.Emission.{rows_needed}
 use Rattle.compiler.specs.Compiling.{shaped, unwritten, answer_for, table_for, code_for, answer_by, table_left, code_left}
 use Rattle.compiler.specs.Compiling.{Compiles}
-use Rattle.compiler.specs.declared.Compilation.{Compilation}
-use Rattle.compiler.specs.declared.Compilation.TheVariants.{Rows, Refused}
+use Rattle.compiler.specs.Compiling.{Compilation}
+use Rattle.compiler.specs.Compiling.{Compilation.Rows, Compilation.Refused}
 use Rattle.demands.specs.Patterns.{Left, Replies, many, rows, short, turned}
 
 module _ (tidying : Bool) (s : List ℕ) (table code : ℕ) where

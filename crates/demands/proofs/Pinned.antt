@@ -3,13 +3,13 @@ use Rattle.std.specs.Prelude.{◌≡◌, Bool, List, ℕ, ℤ, length}
 use Rattle.std.proofs.Common.{sym, ap, ◌∙◌}
 use Rattle.machine.specs.Replies.{lend, reply, registers_after}
 use Rattle.compiler.specs.Compiling.{Compiles}
-use Rattle.compiler.specs.declared.Compilation.{Compilation}
+use Rattle.compiler.specs.Compiling.{Compilation}
 use Rattle.engine.specs.Answers.{Answered}
-use Rattle.engine.specs.declared.Answer.{Answer}
+use Rattle.engine.specs.Answers.{Answer}
 use Rattle.repetition.specs.Listings.{listing, list_after, Lists}
-use Rattle.repetition.specs.declared.Listing.{Listing}
+use Rattle.repetition.specs.Listings.{Listing}
 use Rattle.millkettle.specs.Finding.{finding, spans_left, Finds}
-use Rattle.millkettle.specs.declared.Finding.{Finding}
+use Rattle.millkettle.specs.Finding.{Finding}
 use Rattle.host.specs.Surface.{CompilesBytes, RunsBytes}
 use Rattle.host.specs.declared.Compiled.{Compiled}
 use Rattle.host.specs.declared.Ran.{Ran}

@@ -18,10 +18,10 @@ use Rattle.machine.specs.Replies.{values_of, Lent, lent_by, turned_away, refusal
 use Rattle.machine.specs.Replies.{run_of, answer_of, reply_to, reply, registers_from, registers_after}
 use Rattle.compiler.specs.Compiling.{Compiles}
 use Rattle.millkettle.specs.Compiled.{Coded, Compiled, compiled}
-use Rattle.compiler.specs.declared.Compilation.TheVariants.{Rows}
+use Rattle.compiler.specs.Compiling.{Compilation.Rows}
 use Rattle.engine.specs.Answers.{reply_of, executed, Answered}
-use Rattle.engine.specs.declared.Answer.{Answer}
-use Rattle.engine.specs.declared.Answer.TheVariants.{Found, Missing, Refused}
+use Rattle.engine.specs.Answers.{Answer}
+use Rattle.engine.specs.Answers.{Answer.Found, Answer.Missing, Answer.Refused}
 use Rattle.millkettle.specs.Laws.{Way, Way.matching, Way.searching, row_of, standard_by, finds, conditions}
 use Rattle.reading_grammar.proofs.Sound.{Sound, sound}
 use Rattle.demands.proofs.Patterns.{answered_exactly, derives, derived_bytes}

@@ -12,10 +12,10 @@ use Rattle.machine.specs.Replies.{values_of, Lent, lend, lent_by, refusal, run_o
 use Rattle.machine.specs.Replies.{registers_after}
 use Rattle.running_moves.specs.Ready.{Ready, ready}
 use Rattle.compiler.specs.Compiling.{shaped, Compiles}
-use Rattle.compiler.specs.declared.Compilation.TheVariants.{Rows}
+use Rattle.compiler.specs.Compiling.{Compilation.Rows}
 use Rattle.engine.specs.Answers.{reply_of, executed, Answered}
-use Rattle.engine.specs.declared.Answer.{Answer}
-use Rattle.engine.specs.declared.Answer.TheVariants.{Refused}
+use Rattle.engine.specs.Answers.{Answer}
+use Rattle.engine.specs.Answers.{Answer.Refused}
 use Rattle.second.specs.Plain.{Search, Ended, result_of, count_of}
 use Rattle.second.specs.Agrees.{second_done, second_agrees}
 use Rattle.second.specs.Held.{second_of}

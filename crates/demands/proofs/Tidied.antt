@@ -26,10 +26,10 @@ use Rattle.code_rows.specs.Emission.{rows_needed}
 use Rattle.compiler.specs.Compiling.{plain, tidied, program_grounds, unwritten, answer_for, table_for, answer_by, table_left}
 use Rattle.compiler.specs.Compiling.{compilation, Compiles}
 use Rattle.millkettle.specs.Compiled.{Coded, Compiled, compiled}
-use Rattle.compiler.specs.declared.Compilation.{Compilation}
-use Rattle.compiler.specs.declared.Compilation.TheVariants.{Rows}
+use Rattle.compiler.specs.Compiling.{Compilation}
+use Rattle.compiler.specs.Compiling.{Compilation.Rows}
 use Rattle.engine.specs.Answers.{reply_of, executed, Answered}
-use Rattle.engine.specs.declared.Answer.{Answer}
+use Rattle.engine.specs.Answers.{Answer}
 use Rattle.millkettle.specs.Laws.{Way, Way.matching, Way.searching, row_of, standard_by}
 use Rattle.demands.proofs.Runs.{answers_standard, coded_as, rows_bytes}
 use Rattle.demands.specs.Tidied.{Neat, SameSpans, SameStandard, Twins, outcome}

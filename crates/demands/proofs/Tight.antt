@@ -20,9 +20,9 @@ use Rattle.machine.specs.Replies.{Lent, lent_by, turned_away, run_of}
 use Rattle.reading_grammar.specs.Grammar.{Derives}
 use Rattle.reading_grammar.proofs.Sound.{Sound, sound}
 use Rattle.compiler.specs.Compiling.{shaped, Compiles}
-use Rattle.compiler.specs.declared.Compilation.TheVariants.{Rows}
+use Rattle.compiler.specs.Compiling.{Compilation.Rows}
 use Rattle.engine.specs.Answers.{executed, Answered}
-use Rattle.engine.specs.declared.Answer.{Answer}
+use Rattle.engine.specs.Answers.{Answer}
 use Rattle.millkettle.specs.Compiled.{Coded, Compiled, compiled}
 use Rattle.millkettle.specs.Laws.{Way, Way.matching, Way.searching, row_of, conditions}
 use Rattle.demands.specs.Runs.{steps_of}

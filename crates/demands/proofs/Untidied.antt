@@ -26,8 +26,8 @@ use Rattle.reading_items.specs.Read.{what_is_read}
 use Rattle.reading_items.specs.Reading.{Reading.pattern, literal_set, opening_at, item_by, item_at, sequence_go, alternatives_go}
 use Rattle.reading_items.specs.Reading.{reading, table_by}
 use Rattle.compiler.specs.Compiling.{plain, tidied, table_for, table_left, compilation, table_at, code_at, Compiles}
-use Rattle.compiler.specs.declared.Compilation.{Compilation}
-use Rattle.compiler.specs.declared.Compilation.TheVariants.{Rows}
+use Rattle.compiler.specs.Compiling.{Compilation}
+use Rattle.compiler.specs.Compiling.{Compilation.Rows}
 use Rattle.millkettle.specs.Compiled.{Compiled, compiled}
 use Rattle.demands.specs.Tidied.{Neat}
 use Rattle.demands.proofs.Demands.{demand_3}

@@ -20,8 +20,8 @@ use Rattle.reading_grammar.specs.Grammar.{Derives}
 use Rattle.compiler.specs.Compiling.{shaped}
 use Rattle.repetition.specs.Listings.{lent_all, listing_to}
 use Rattle.repetition.specs.Listings.{list_from}
-use Rattle.repetition.specs.declared.Listing.{Listing}
-use Rattle.repetition.specs.declared.Listing.TheVariants.{Listed, Short, Refused}
+use Rattle.repetition.specs.Listings.{Listing}
+use Rattle.repetition.specs.Listings.{Listing.Listed, Listing.Short, Listing.Refused}
 
 -- ---- demand 1
 

@@ -14,8 +14,8 @@ use Rattle.tidying_laws.specs.Vectors.{computed}
 use Rattle.reading_atoms.specs.Braces.{number_go, number_at, braces_at, quantifier_at}
 use Rattle.reading_items.specs.Reading.{Reading, opening_at, item_by, item_at, sequence_go, alternatives_go, reading}
 use Rattle.compiler.specs.Compiling.{plain, tidied, answer_by, table_left, code_left}
-use Rattle.compiler.specs.declared.Compilation.{Compilation}
-use Rattle.compiler.specs.declared.Compilation.TheVariants.{Rows, Refused}
+use Rattle.compiler.specs.Compiling.{Compilation}
+use Rattle.compiler.specs.Compiling.{Compilation.Rows, Compilation.Refused}
 
 -- What a pattern is read as, with a table that is large enough; what is answered with so many words of code; and with those
 -- of the outline's program, which 96 rows need, about the pattern as it is and about the tidied one.

@@ -13,7 +13,7 @@ use Rattle.reading_grammar.specs.Refusals.{Checks, Checks.long, Checks.small, Ch
 use Rattle.reading_grammar.proofs.First.{refused_first}
 use Rattle.code_rows.specs.Emission.{rows_needed}
 use Rattle.compiler.specs.Compiling.{shaped, program_grounds, unwritten, answer_for, answer_by}
-use Rattle.compiler.specs.declared.Compilation.{Compilation}
+use Rattle.compiler.specs.Compiling.{Compilation}
 use Rattle.host.specs.Surface.{compiled_numbers, code_lent, CompilesBytes}
 use Rattle.host.specs.declared.Compiled.{Compiled}
 

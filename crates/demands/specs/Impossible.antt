@@ -18,13 +18,13 @@ use Rattle.machine.specs.Words.{code_of}
 use Rattle.reading_atoms.specs.Braces.{quantifier_at}
 use Rattle.reading_items.specs.Reading.{Reading.pattern, opening_at, item_by, item_at, sequence_go, alternatives_go, reading}
 use Rattle.compiler.specs.Compiling.{compilation, code_at, Compiles}
-use Rattle.compiler.specs.declared.Compilation.{Compilation}
-use Rattle.compiler.specs.declared.Compilation.TheVariants.{Rows}
+use Rattle.compiler.specs.Compiling.{Compilation}
+use Rattle.compiler.specs.Compiling.{Compilation.Rows}
 use Rattle.tidying_laws.specs.Vectors.{computed}
 use Rattle.machine.specs.Replies.{Lent, lent_by, answer_of, reply_to}
 use Rattle.millkettle.specs.Finding.{finding_from, finding_by, find_grounds, sought, steps_taken, finding, spans_left, counted, Finds}
-use Rattle.millkettle.specs.declared.Finding.{Finding}
-use Rattle.millkettle.specs.declared.Finding.TheVariants.{Found}
+use Rattle.millkettle.specs.Finding.{Finding}
+use Rattle.millkettle.specs.Finding.{Finding.Found}
 
 -- Buffers of zeros that are enough for a pattern of one byte: 64 table words, 120 code words, 2 registers and 288
 -- workspace words.

@@ -9,8 +9,8 @@ use Rattle.reading_grammar.specs.Grammar.{Derives}
 use Rattle.reading_grammar.specs.Refusals.{TurnedAway}
 use Rattle.code_rows.specs.Emission.{rows_needed}
 use Rattle.compiler.specs.Compiling.{shaped}
-use Rattle.compiler.specs.declared.Compilation.{Compilation}
-use Rattle.compiler.specs.declared.Compilation.TheVariants.{Rows, Refused}
+use Rattle.compiler.specs.Compiling.{Compilation}
+use Rattle.compiler.specs.Compiling.{Compilation.Rows, Compilation.Refused}
 
 -- What is answered, with so many words of table and of code: 1 to 14 by the table of refusals, read beside the grammar; of what
 -- derives and has a table's room, 15 by its rows and 16 by the rows that are written, both at place 0; and rows otherwise.

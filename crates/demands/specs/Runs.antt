@@ -12,8 +12,8 @@ use Rattle.machine.specs.Replies.{answer_of, spans}
 use Rattle.reading_items.specs.Reading.{Reading.pattern, reading}
 use Rattle.compiler.specs.Compiling.{shaped}
 use Rattle.engine.specs.Answers.{reply_of, executed}
-use Rattle.engine.specs.declared.Answer.{Answer}
-use Rattle.engine.specs.declared.Answer.TheVariants.{Found, Missing, Refused}
+use Rattle.engine.specs.Answers.{Answer}
+use Rattle.engine.specs.Answers.{Answer.Found, Answer.Missing, Answer.Refused}
 use Rattle.millkettle.specs.Laws.{Way, standard_by}
 use Rattle.reading_grammar.specs.Grammar.{Derives}
 

@@ -8,7 +8,7 @@ use Rattle.machine.specs.Replies.{answer_of, spans}
 use Rattle.reading_items.specs.Reading.{Reading.pattern, reading}
 use Rattle.compiler.specs.Compiling.{shaped}
 use Rattle.engine.specs.Answers.{reply_of, executed}
-use Rattle.engine.specs.declared.Answer.{Answer}
+use Rattle.engine.specs.Answers.{Answer}
 use Rattle.millkettle.specs.Laws.{Way, standard_by}
 
 -- Demand 2 of the second engine: of what `compile` or `compile_tidied` leaves it answers as the standard's algorithm does on the

@@ -1,12 +1,24 @@
 -- What a call promises. Definitions only.
-use Rattle.std.specs.Prelude.{◌≡◌, List, ℕ, ◌+◌, ◌*◌, ◌-◌, ◌≤◌, ℤ, length, get_or}
+use Rattle.std.specs.Prelude.{◌≡◌, Result, Ok, Err, List, ℕ, ◌+◌, ◌*◌, ◌-◌, ◌≤◌, ℤ, length, get_or}
 use Rattle.meaning.specs.Limits.{workspace_words}
+use Rattle.meaning.specs.Refusing.{number_of}
+use Rattle.meaning.specs.declared.refusals.Refusal.{Refusal}
 use Rattle.machine.specs.Words.{rows_said, groups_said}
 use Rattle.machine.specs.Replies.{Reply, Reply.found, Reply.missing, Reply.refused, values_of, lent_by, reply}
 use Rattle.machine.specs.Replies.{registers_after, shown}
 use Rattle.running_threads.specs.Threads.{reg_of}
-use Rattle.engine.specs.declared.Answer.{Answer}
-use Rattle.engine.specs.declared.Answer.TheVariants.{Found, Missing, Refused}
+use Rattle.engine.specs.declared.Answer.{Answer as Counted}
+
+-- What a call answers: found or none with the count of rows executed, or turned away by a number.
+pub data Answer : Type 0 where
+  Found : ℕ → Answer
+  Missing : ℕ → Answer
+  Refused : ℕ → Answer
+
+abbrev pub answer_of : Result Counted Refusal → Answer
+answer_of (Ok (Counted.Found executed)) = Found executed
+answer_of (Ok (Counted.Missing executed)) = Missing executed
+answer_of (Err why) = Refused (number_of why)
 
 -- The outline's reply for each case: found or none with the count of rows executed, or turned away by a number.
 abbrev pub reply_of : Answer → Reply

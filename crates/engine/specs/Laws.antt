@@ -25,9 +25,7 @@ use Rattle.running_threads.specs.Laws.{words_length}
 use Rattle.running_settle.specs.Moved.{best_of}
 use Rattle.running.specs.Ran.{RanAs}
 use Rattle.running.specs.declared.Ran.{Ran}
-use Rattle.engine.specs.Answers.{shown_word, Answered}
-use Rattle.engine.specs.declared.Answer.{Answer}
-use Rattle.engine.specs.declared.Answer.TheVariants.{Found, Missing, Refused}
+use Rattle.engine.specs.Answers.{Answer, Found, Missing, Refused, shown_word, Answered}
 
 -- ---- refusals
 

@@ -6,7 +6,7 @@ use Rattle.machine.specs.Replies.{Reply.refused, lent_by, reply, registers_after
 use Rattle.millkettle.specs.Calls.Compiling.{compilation, table_at, code_at}
 use Rattle.millkettle.specs.Calls.Listings.{listing_values, listing, list_after}
 use Rattle.millkettle.specs.Calls.{Listing}
-use Rattle.millkettle.specs.Calls.Listing.{Refused}
+use Rattle.millkettle.specs.Calls.Listings.{Refused}
 use Rattle.host.specs.Surface.{compiled_numbers, ran_numbers}
 use Rattle.host.specs.declared.Compiled.{Compiled}
 use Rattle.host.specs.declared.Ran.{Ran}

@@ -5,7 +5,7 @@ use Rattle.machine.specs.Replies.{Reply.refused}
 use Rattle.millkettle.specs.Calls.Compiling.{Compiles}
 use Rattle.millkettle.specs.Calls.{Compilation, Answer, Listing}
 use Rattle.millkettle.specs.Calls.Answers.{reply_of, Answered}
-use Rattle.millkettle.specs.Calls.Answer.{Found, Missing, Refused}
+use Rattle.millkettle.specs.Calls.Answers.{Found, Missing, Refused}
 use Rattle.millkettle.specs.Calls.Listings.{Lists}
 use Rattle.host.specs.Surface.{compiled_numbers, ran_numbers}
 use Rattle.host.specs.declared.Compiled.{Compiled}

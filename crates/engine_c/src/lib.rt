@@ -5,11 +5,11 @@
 ghost use Rattle.std.specs.Prelude.{◌≡◌};
 ghost use Rattle.machine.specs.Steps.{search_row, match_row};
 ghost use Rattle.millkettle.specs.Calls.Compiling.{plain, tidied};
+ghost use Rattle.millkettle.specs.Calls.Listings.{listing_of};
 ghost use Rattle.engine_c.specs.Calls.{listed_numbers, CompilesWords, RunsWords, ListsWords};
 
-use host::{Compiled, Ran, compiled_numbers, ran_numbers};
-use meaning::refusals::SHORT_LIST;
-use millkettle::Listing;
+use host::{Compiled, Ran};
+use millkettle::{Refusal, Unlisted};
 
 // What a call for every match answers: 0, how many there are and the count of rows executed; or the number of a refusal, at
 // place 0, and with 25 how many words are needed.
@@ -24,31 +24,33 @@ pub struct Listed {
 }
 
 // The numbers passed for each case of the answer.
-fn listed_numbers(answer: Listing) -> Listed
-    ensures { result ≡ listed_numbers answer }
-{
-    match answer {
-        Listing::Listed { matches, count } => Listed {
-            number: 0,
-            place: 0,
-            matches,
-            needed: 0,
-            count,
-        },
-        Listing::Short { needed } => Listed {
-            number: SHORT_LIST,
-            place: 0,
-            matches: 0,
-            needed,
-            count: 0,
-        },
-        Listing::Refused(number) => Listed {
-            number,
-            place: 0,
-            matches: 0,
-            needed: 0,
-            count: 0,
-        },
+impl From<Result<millkettle::Listed, Unlisted>> for Listed {
+    ghost from_gives = { λ answer numbers. numbers ≡ listed_numbers (listing_of answer) };
+
+    fn from(answer: Result<millkettle::Listed, Unlisted>) -> Listed {
+        match answer {
+            Ok(listed) => Listed {
+                number: 0,
+                place: 0,
+                matches: listed.matches,
+                needed: 0,
+                count: listed.count,
+            },
+            Err(Unlisted::Short { needed }) => Listed {
+                number: Refusal::ShortList.number(),
+                place: 0,
+                matches: 0,
+                needed,
+                count: 0,
+            },
+            Err(Unlisted::Refused(why)) => Listed {
+                number: why.number(),
+                place: 0,
+                matches: 0,
+                needed: 0,
+                count: 0,
+            },
+        }
     }
 }
 
@@ -62,7 +64,7 @@ pub extern "C" fn millkettle_compile_words(
     ensures { CompilesWords plain pattern.now table.old table.new code.old
         code.new result }
 {
-    compiled_numbers(millkettle::compile(pattern, table, code))
+    millkettle::compile(pattern, table, code).into()
 }
 
 // Compiles the tidied pattern. Answers as `millkettle_compile_words` does, but 16 is by the tidied pattern's rows.
@@ -75,7 +77,7 @@ pub extern "C" fn millkettle_compile_tidied_words(
     ensures { CompilesWords tidied pattern.now table.old table.new code.old
         code.new result }
 {
-    compiled_numbers(millkettle::compile_tidied(pattern, table, code))
+    millkettle::compile_tidied(pattern, table, code).into()
 }
 
 // Matches at the start.
@@ -90,7 +92,7 @@ pub extern "C" fn millkettle_match_words(
     ensures { RunsWords match_row code.now text.now start registers.old
         registers.new workspace.old workspace.new result }
 {
-    ran_numbers(millkettle::match_at(code, text, start, registers, workspace))
+    millkettle::match_at(code, text, start, registers, workspace).into()
 }
 
 // Searches from the start on, for the first position that matches.
@@ -105,7 +107,7 @@ pub extern "C" fn millkettle_search_words(
     ensures { RunsWords search_row code.now text.now start registers.old
         registers.new workspace.old workspace.new result }
 {
-    ran_numbers(millkettle::search(code, text, start, registers, workspace))
+    millkettle::search(code, text, start, registers, workspace).into()
 }
 
 // Every match from the start on, in order, into a lent list.
@@ -120,5 +122,5 @@ pub extern "C" fn millkettle_search_all_words(
     ensures { ListsWords code.now text.now start list.old list.new
         workspace.old workspace.new result }
 {
-    listed_numbers(millkettle::search_all(code, text, start, list, workspace))
+    millkettle::search_all(code, text, start, list, workspace).into()
 }

@@ -8,11 +8,9 @@ use Rattle.sets.specs.Sets.{is_digit}
 use Rattle.meaning.specs.Quoted.{bytes}
 use Rattle.fields.specs.Scanning.{digits_from, unsigned, numeral_in, field_of}
 use Rattle.fields.specs.Gates.{passing_value, passing_field}
-use Rattle.fields.specs.declared.Field.{Field}
-use Rattle.fields.specs.declared.Field.TheVariants.{Number, Refused}
+use Rattle.fields.specs.Field.{Field, Number, Refused}
 use Rattle.fields.specs.declared.Gate.TheVariants.{AtMost, AtLeast, Between}
-use Rattle.fields.specs.declared.Passing.{Passing}
-use Rattle.fields.specs.declared.Passing.TheVariants.{Passes, Stopped, Refused as Unpassed}
+use Rattle.fields.specs.Passing.{Passing, Passes, Stopped, Refused as Unpassed}
 
 -- Whether an answer is a number of such bits and decimals, or 28 at place 0.
 abbrev is : Field → ℕ → ℕ → Bool

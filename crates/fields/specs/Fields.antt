@@ -7,8 +7,7 @@ use Rattle.sets.specs.Sets.{is_digit}
 use Rattle.meaning.specs.Limits.{digit_limit}
 use Rattle.meaning.specs.Refusals as No
 use Rattle.fields.specs.declared.Reading.{Reading}
-use Rattle.fields.specs.declared.Field.{Field}
-use Rattle.fields.specs.declared.Field.TheVariants.{Number, Refused}
+use Rattle.fields.specs.Field.{Field, Number, Refused}
 
 -- The bytes of a number beside its digits.
 abbrev pub minus_sign : ℕ

@@ -4,12 +4,10 @@ use Rattle.std.specs.Float.Ieee.{le, lt, is_nan}
 use Rattle.meaning.specs.Refusals as No
 use Rattle.fields.specs.Scanning.{field_of}
 use Rattle.fields.specs.declared.Reading.{Reading}
-use Rattle.fields.specs.declared.Field.{Field}
-use Rattle.fields.specs.declared.Field.TheVariants.{Number, Refused as Unread}
+use Rattle.fields.specs.Field.{Field, Number, Refused as Unread}
 use Rattle.fields.specs.declared.Gate.{Gate}
 use Rattle.fields.specs.declared.Gate.TheVariants.{AtMost, AtLeast, Between}
-use Rattle.fields.specs.declared.Passing.{Passing}
-use Rattle.fields.specs.declared.Passing.TheVariants.{Passes, Stopped, Refused}
+use Rattle.fields.specs.Passing.{Passing, Passes, Stopped, Refused}
 
 -- The outline's number and values for each case: 29 at place 0 for a limit that is no number, else whether it passes.
 abbrev pub told_by : Bool → Bool → Passing
@@ -32,3 +30,14 @@ passing_by gate (Unread number place) = Refused number place
 
 abbrev pub passing_field : Gate → List ℕ → ℤ → ℤ → Passing
 passing_field gate text start end = passing_by gate (field_of text start end)
+
+-- The two tests of a gate apart: whether its limits are numbers, and whether a value lies within them.
+abbrev pub numbers_in : Gate → Bool
+numbers_in (AtMost limit) = not (is_nan limit)
+numbers_in (AtLeast limit) = not (is_nan limit)
+numbers_in (Between low high) = not (is_nan low) && not (is_nan high)
+
+abbrev pub holds : Gate → Float → Bool
+holds (AtMost limit) value = le value limit
+holds (AtLeast limit) value = le limit value
+holds (Between low high) value = not (lt high low) && (le low value && le value high)

@@ -1,6 +1,9 @@
+pub mod Field
+pub mod Passing
 pub mod Fields
 pub mod Scanning
 pub mod Gates
+pub mod Views
 pub mod Laws
 pub mod Order
 pub mod Values

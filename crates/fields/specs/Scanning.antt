@@ -5,7 +5,7 @@ use Rattle.std.proofs.Math.Option.{Option, none, some}
 use Rattle.sets.specs.Sets.{is_digit}
 use Rattle.meaning.specs.Limits.{digit_limit}
 use Rattle.fields.specs.Fields.{minus_sign, point, span_of, Numeral, numeral, field_by}
-use Rattle.fields.specs.declared.Field.{Field}
+use Rattle.fields.specs.Field.{Field}
 
 -- Digits that were read: the number, how many more there may be, and the bytes behind them.
 pub record Scanned : Type 0 where

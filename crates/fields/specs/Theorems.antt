@@ -15,12 +15,10 @@ use Rattle.fields.specs.Values as values
 use Rattle.fields.specs.Values.{Finite, power_small, written_small}
 use Rattle.fields.specs.Order.{above_numbers, below_numbers, at_itself, none_below, none_above, from_below, to_above}
 use Rattle.fields.specs.declared.Reading.{Reading}
-use Rattle.fields.specs.declared.Field.{Field}
-use Rattle.fields.specs.declared.Field.TheVariants.{Number, Refused}
+use Rattle.fields.specs.Field.{Field, Number, Refused}
 use Rattle.fields.specs.declared.Gate.{Gate}
 use Rattle.fields.specs.declared.Gate.TheVariants.{AtMost, AtLeast, Between}
-use Rattle.fields.specs.declared.Passing.{Passing}
-use Rattle.fields.specs.declared.Passing.TheVariants.{Passes, Stopped}
+use Rattle.fields.specs.Passing.{Passing, Passes, Stopped}
 
 -- What a span holds: its bytes are written as a number.
 pub record Holds (text : List ℕ) (start end : ℤ) (n : Numeral) : Type 0 where

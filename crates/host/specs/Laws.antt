@@ -6,6 +6,7 @@ use Rattle.std.proofs.Math.Option.{Option}
 use Rattle.std.proofs.Math.Decide.{dec_lt}
 use Rattle.std.proofs.lemmas.Bool.{not-false}
 use Rattle.std.proofs.lemmas.List.{length-replicate}
+use Rattle.std.specs.Borrow.{Bor, MutBor}
 use Rattle.meaning.specs.Text.{Regs, registers_of}
 use Rattle.meaning.specs.Bytes.{Bytes, text_of}
 use Rattle.meaning.specs.Limits.{group_limit}
@@ -21,9 +22,9 @@ use Rattle.running_moves.specs.Ready.{ready}
 use Rattle.reading_items.specs.Reading.{reading}
 use Rattle.millkettle.specs.Calls.Compiling.{answer_by, code_left, Compiles}
 use Rattle.millkettle.specs.Calls.{Compilation}
-use Rattle.millkettle.specs.Calls.Answers.{reply_of, Answered}
+use Rattle.millkettle.specs.Calls.Answers.{reply_of, answer_of, Answered}
 use Rattle.millkettle.specs.Calls.{Answer}
-use Rattle.millkettle.specs.Calls.Answer.{Found, Missing, Refused}
+use Rattle.millkettle.specs.Calls.Answers.{Found, Missing, Refused}
 use Rattle.millkettle.specs.Calls.Replies.{Seconded}
 use Rattle.wire.specs.Wire.{words_of, bytes_of_words, ints_of, bytes_of_ints, written}
 use Rattle.wire.specs.Words.{words_length}
@@ -32,7 +33,7 @@ use Rattle.wire.proofs.Written.{ints_over, ints_same}
 use Rattle.meaning.specs.Limits.{table_size, code_size, workspace_size}
 use Rattle.host.specs.Surface.{register_count, compiled_numbers, ran_numbers, lent_words, code_lent, all_words, all_ints}
 use Rattle.host.specs.Surface.{lent_to, byte_grounds, reply_lent, registers_lent}
-use Rattle.host.specs.Surface.{CompilesBytes, RunsBytes, SecondsWords}
+use Rattle.host.specs.Surface.{Running, CompilesBytes, RunsInside, RunsBy, RunsBytes, SecondsWords}
 use Rattle.host.specs.declared.Compiled.{Compiled}
 use Rattle.host.specs.declared.Ran.{Ran}
 
@@ -151,6 +152,23 @@ module _ (row : ℕ) (code text : List ℕ) (start : ℕ) (registers : List ℕ)
               ∙ ap₂ (λ x y. registers_after x y row ints) words_are lent_is
               ∙ ap (registers_after held called row) (i ∙ ap (ints_of registers) f)) ∙ inside_registers;
         }
+
+-- A call that runs on lent bytes, and answers as a run does, keeps the promise.
+pub runs_by : (row : ℕ) (code text : List ℕ) (start : ℕ) (registers : List ℕ)
+    {run : Bor (List ℕ) → MutBor (List ℤ) → MutBor (List ℕ) → Running → MutBor (List ℤ) → MutBor (List ℕ) → Type 0}
+    {r : Ran} {registers' : List ℕ} → RunsBy run code registers r registers'
+    → ((c : RunsInside run code registers r registers')
+    → Answered c.words.now text start row c.ints.now c.work.now (answer_of c.answer) c.ints'.now c.work'.now)
+    → RunsBytes row code text start registers r registers'
+runs_by row code text start registers {r = r} {registers' = registers'} by call =
+    cases (dec_lt code_size (lent_words (length code)))
+  where
+    cases : Dec (code_size < lent_words (length code)) → RunsBytes row code text start registers r registers'
+    cases (yes h) = rw (by.turned h).1 (turns_away row code text start registers by.bytes h (by.turned h).0)
+    cases (no h) =
+        let fits : lent_words (length code) ≤ code_size = omega arith in
+        let c = by.answers fits in
+        runs_bytes row code text start registers by.bytes fits c.loads refl c.spans refl c.room (call c) c.stores c.numbers
 
 -- A call of the second engine passes the numbers of its answer.
 refused_number : (a : Answer) (k : ℕ) → (ran_numbers (reply_of a)).number ≡ suc k → a ≡ Refused (suc k)

@@ -4,16 +4,16 @@
 
 pub mod readings; // readings.rt: fields as numbers, and gates
 
-ghost use Rattle.std.specs.Prelude.{◌≡◌, true, false, cond, min};
+ghost use Rattle.std.specs.Prelude.{◌≡◌, min};
 ghost use Rattle.machine.specs.Steps.{search_row, match_row};
-ghost use Rattle.millkettle.specs.Calls.Compiling.{plain, tidied, Compiles};
-ghost use Rattle.millkettle.specs.Calls.Answers.{reply_of, Answered};
+ghost use Rattle.millkettle.specs.Calls.Compiling.{plain, tidied, compilation_of};
+ghost use Rattle.millkettle.specs.Calls.Answers.{reply_of, answer_of};
 ghost use Rattle.host.specs.Surface.{compiled_numbers, ran_numbers, lent_words, CompilesBytes, RunsBytes};
-ghost use Rattle.host.specs.Surface.{SecondsWords};
+ghost use Rattle.host.specs.Surface.{CompilesBy, RunsBy, SecondsWords};
 
 use meaning::limits::{CODE_SIZE, REGISTER_LIMIT, TABLE_SIZE, WORKSPACE_SIZE};
-use millkettle::{Answer, Compilation};
-use wire::{load_ints, load_words, store_ints, store_words};
+use millkettle::{Answer, Program, Refusal, Refused};
+use wire::{load, store};
 
 // What compiling answers: 0, the rows and the groups; or the number of a refusal and its place.
 #[repr(C)]
@@ -36,48 +36,52 @@ pub struct Ran {
 }
 
 // The numbers passed for each case of the answer.
-pub fn compiled_numbers(answer: Compilation) -> Compiled
-    ensures { result ≡ compiled_numbers answer }
-{
-    match answer {
-        Compilation::Rows { rows, groups } => Compiled {
-            number: 0,
-            rows,
-            groups,
-            place: 0,
-        },
-        Compilation::Refused { number, place } => Compiled {
-            number,
-            rows: 0,
-            groups: 0,
-            place,
-        },
+impl From<Result<Program, Refused>> for Compiled {
+    ghost from_gives = { λ answer numbers. numbers ≡ compiled_numbers (compilation_of answer) };
+
+    fn from(answer: Result<Program, Refused>) -> Compiled {
+        match answer {
+            Ok(program) => Compiled {
+                number: 0,
+                rows: program.rows,
+                groups: program.groups,
+                place: 0,
+            },
+            Err(refused) => Compiled {
+                number: refused.why.number(),
+                rows: 0,
+                groups: 0,
+                place: refused.place,
+            },
+        }
     }
 }
 
 // The numbers passed for each case of the answer.
-pub fn ran_numbers(answer: Answer) -> Ran
-    ensures { result ≡ ran_numbers (reply_of answer) }
-{
-    match answer {
-        Answer::Found(count) => Ran {
-            number: 0,
-            found: 1,
-            place: 0,
-            count,
-        },
-        Answer::Missing(count) => Ran {
-            number: 0,
-            found: 0,
-            place: 0,
-            count,
-        },
-        Answer::Refused(number) => Ran {
-            number,
-            found: 0,
-            place: 0,
-            count: 0,
-        },
+impl From<Result<Answer, Refusal>> for Ran {
+    ghost from_gives = { λ answer numbers. numbers ≡ ran_numbers (reply_of (answer_of answer)) };
+
+    fn from(answer: Result<Answer, Refusal>) -> Ran {
+        match answer {
+            Ok(Answer::Found(count)) => Ran {
+                number: 0,
+                found: 1,
+                place: 0,
+                count,
+            },
+            Ok(Answer::Missing(count)) => Ran {
+                number: 0,
+                found: 0,
+                place: 0,
+                count,
+            },
+            Err(why) => Ran {
+                number: why.number(),
+                found: 0,
+                place: 0,
+                count: 0,
+            },
+        }
     }
 }
 
@@ -85,36 +89,24 @@ pub fn ran_numbers(answer: Answer) -> Ran
 fn lent_words(bytes: usize, most: usize) -> usize
     ensures { result ≡ min (lent_words bytes) most }
 {
-    let whole = bytes / 4;
-    if whole < most {
-        return whole;
-    }
-    most
+    (bytes / 4).min(most)
 }
 
-// Compiling the tidied pattern, or the plain one.
-fn code_for(tidying: bool, pattern: &[u8], table: &mut [u32], code: &mut [u32]) -> Compilation
-    ensures { Compiles tidying pattern.now table.old table.new code.old
-        code.new result }
-{
-    if tidying {
-        return millkettle::compile_tidied(pattern, table, code);
-    }
-    millkettle::compile(pattern, table, code)
-}
-
-// A pattern compiled into lent bytes, with table and code words of our own.
-fn compile_lent(tidying: bool, pattern: &[u8], code: &mut [u8]) -> Compiled
-    ensures { CompilesBytes tidying pattern.now code.old result code.new }
+// A pattern compiled by a call into lent bytes, with table and code words of our own.
+fn compile_lent<F>(compile: F, pattern: &[u8], code: &mut [u8]) -> Compiled
+where
+    F: FnOnce(&[u8], &mut [u32], &mut [u32]) -> Result<Program, Refused>,
+    requires { F.IsAlwaysCallable compile }
+    ensures { CompilesBy (F.post compile pattern.entry) code.old result code.new }
 {
     let mut table = [0u32; TABLE_SIZE];
     let mut inside = [0u32; CODE_SIZE];
     let room = lent_words(code.len(), CODE_SIZE);
     let words = &mut inside[..room];
-    load_words(code, words);
-    let answer = code_for(tidying, pattern, &mut table, words);
-    store_words(words, code);
-    compiled_numbers(answer)
+    load(code, words);
+    let answer = compile(pattern, &mut table, words);
+    store(words, code);
+    answer.into()
 }
 
 // Compiles a pattern into lent bytes. Answers 0 with the rows and groups, and the code's bytes stand in front of those
@@ -122,54 +114,39 @@ fn compile_lent(tidying: bool, pattern: &[u8], code: &mut [u8]) -> Compiled
 pub fn millkettle_compile(pattern: &[u8], code: &mut [u8]) -> Compiled
     ensures { CompilesBytes plain pattern.now code.old result code.new }
 {
-    compile_lent(false, pattern, code)
+    compile_lent(millkettle::compile, pattern, code)
 }
 
 // Compiles the tidied pattern. Answers as `millkettle_compile` does, but 16 is by the tidied pattern's rows.
 pub fn millkettle_compile_tidied(pattern: &[u8], code: &mut [u8]) -> Compiled
     ensures { CompilesBytes tidied pattern.now code.old result code.new }
 {
-    compile_lent(true, pattern, code)
+    compile_lent(millkettle::compile_tidied, pattern, code)
 }
 
-// Searching from the start on, or matching at it.
-fn answer_from(
-    searching: bool,
-    code: &[u32],
-    text: &[u8],
-    start: usize,
-    registers: &mut [i32],
-    workspace: &mut [u32],
-) -> Answer
-    ensures { Answered code.now text.now start (cond searching search_row match_row)
-        registers.old workspace.old result registers.new workspace.new }
-{
-    if searching {
-        return millkettle::search(code, text, start, registers, workspace);
-    }
-    millkettle::match_at(code, text, start, registers, workspace)
-}
-
-// A run on lent bytes: too much code is turned away, and else the run inside answers.
-fn run_lent(searching: bool, code: &[u8], text: &[u8], start: usize, registers: &mut [u8]) -> Ran
-    ensures { RunsBytes (cond searching search_row match_row) code.now text.now start
-        registers.old result registers.new }
+// A run on lent bytes, with registers and a workspace of our own: too much code is turned away, and else the call answers.
+fn run_lent<F>(run: F, code: &[u8], text: &[u8], start: usize, registers: &mut [u8]) -> Ran
+where
+    F: FnOnce(&[u32], &[u8], usize, &mut [i32], &mut [u32]) -> Result<Answer, Refusal>,
+    requires { F.IsAlwaysCallable run }
+    ensures { RunsBy (λ words. F.post run words text.entry start) code.now registers.old
+        result registers.new }
 {
     let lent = code.len() / 4;
     if lent > CODE_SIZE {
-        return ran_numbers(Answer::Refused(meaning::refusals::CODE_FAILS));
+        return Err(Refusal::CodeFails).into();
     }
     let mut inside = [0u32; CODE_SIZE];
     let words = &mut inside[..lent];
-    load_words(code, words);
+    load(code, words);
     let mut slots = [0i32; REGISTER_LIMIT];
     let used = lent_words(registers.len(), REGISTER_LIMIT);
     let spans = &mut slots[..used];
-    load_ints(registers, spans);
+    load(registers, spans);
     let mut workspace = [0u32; WORKSPACE_SIZE];
-    let answer = answer_from(searching, words, text, start, spans, &mut workspace);
-    store_ints(spans, registers);
-    ran_numbers(answer)
+    let answer = run(words, text, start, spans, &mut workspace);
+    store(spans, registers);
+    answer.into()
 }
 
 // Matches at the start. Answers 0 with found or none and the count, and the registers' bytes stand in front of those
@@ -178,7 +155,7 @@ pub fn millkettle_match(code: &[u8], text: &[u8], start: usize, registers: &mut 
     ensures { RunsBytes match_row code.now text.now start registers.old result
         registers.new }
 {
-    run_lent(false, code, text, start, registers)
+    run_lent(millkettle::match_at, code, text, start, registers)
 }
 
 // Searches from the start on, for the first position that matches. Answers as `millkettle_match` does.
@@ -186,7 +163,7 @@ pub fn millkettle_search(code: &[u8], text: &[u8], start: usize, registers: &mut
     ensures { RunsBytes search_row code.now text.now start registers.old result
         registers.new }
 {
-    run_lent(true, code, text, start, registers)
+    run_lent(millkettle::search, code, text, start, registers)
 }
 
 // Matches at the start by the second engine, in words that are lent as they are: its workspace is as large as its formula says.
@@ -201,8 +178,7 @@ pub fn millkettle_second_match(
     ensures { SecondsWords match_row code.now text.now start registers.old
         workspace.old result registers.new workspace.new }
 {
-    let answer = millkettle::second_match(code, text, start, registers, workspace);
-    ran_numbers(answer)
+    millkettle::second_match(code, text, start, registers, workspace).into()
 }
 
 // Searches from the start on by the second engine. Answers as `millkettle_second_match` does.
@@ -216,6 +192,5 @@ pub fn millkettle_second_search(
     ensures { SecondsWords search_row code.now text.now start registers.old
         workspace.old result registers.new workspace.new }
 {
-    let answer = millkettle::second_search(code, text, start, registers, workspace);
-    ran_numbers(answer)
+    millkettle::second_search(code, text, start, registers, workspace).into()
 }

@@ -2,9 +2,10 @@
 ghost use Rattle.std.specs.Prelude.{◌≡◌};
 ghost use Rattle.millkettle.specs.Calls.Scanning.{field_of};
 ghost use Rattle.millkettle.specs.Calls.Gates.{passing_value};
+ghost use Rattle.millkettle.specs.Calls.Views.{field_view, passing_view};
 ghost use Rattle.host.specs.Readings.{field_numbers, passed_numbers};
 
-use millkettle::{Field, Gate, Passing, Reading};
+use millkettle::{Gate, Passing, Reading, Refused};
 
 // What reading a field answers: 0, the value and its decimals; or the number of a refusal, at place 0.
 #[repr(C)]
@@ -26,45 +27,49 @@ pub struct Passed {
 }
 
 // The numbers passed for each case of the answer.
-fn field_numbers(answer: Field) -> Read
-    ensures { result ≡ field_numbers answer }
-{
-    match answer {
-        Field::Number(reading) => Read {
-            number: 0,
-            decimals: reading.decimals,
-            place: 0,
-            value: reading.value,
-        },
-        Field::Refused { number, place } => Read {
-            number,
-            decimals: 0,
-            place,
-            value: 0.0,
-        },
+impl From<Result<Reading, Refused>> for Read {
+    ghost from_gives = { λ answer numbers. numbers ≡ field_numbers (field_view answer) };
+
+    fn from(answer: Result<Reading, Refused>) -> Read {
+        match answer {
+            Ok(reading) => Read {
+                number: 0,
+                decimals: reading.decimals,
+                place: 0,
+                value: reading.value,
+            },
+            Err(refused) => Read {
+                number: refused.why.number(),
+                decimals: 0,
+                place: refused.place,
+                value: 0.0,
+            },
+        }
     }
 }
 
 // The numbers passed for each case of the answer.
-fn passed_numbers(answer: Passing) -> Passed
-    ensures { result ≡ passed_numbers answer }
-{
-    match answer {
-        Passing::Passes => Passed {
-            number: 0,
-            passes: 1,
-            place: 0,
-        },
-        Passing::Stopped => Passed {
-            number: 0,
-            passes: 0,
-            place: 0,
-        },
-        Passing::Refused { number, place } => Passed {
-            number,
-            passes: 0,
-            place,
-        },
+impl From<Result<Passing, Refused>> for Passed {
+    ghost from_gives = { λ answer numbers. numbers ≡ passed_numbers (passing_view answer) };
+
+    fn from(answer: Result<Passing, Refused>) -> Passed {
+        match answer {
+            Ok(Passing::Passes) => Passed {
+                number: 0,
+                passes: 1,
+                place: 0,
+            },
+            Ok(Passing::Stopped) => Passed {
+                number: 0,
+                passes: 0,
+                place: 0,
+            },
+            Err(refused) => Passed {
+                number: refused.why.number(),
+                passes: 0,
+                place: refused.place,
+            },
+        }
     }
 }
 
@@ -72,7 +77,7 @@ fn passed_numbers(answer: Passing) -> Passed
 pub fn millkettle_read_field(text: &[u8], start: i32, end: i32) -> Read
     ensures { result ≡ field_numbers (field_of text.now start end) }
 {
-    field_numbers(millkettle::read_field(text, start, end))
+    millkettle::read_field(text, start, end).into()
 }
 
 // Whether a value lies between two limits, ends included. Answers 0 with 1 or 0, or 29 for a limit that is no number. At most
@@ -81,5 +86,5 @@ pub fn millkettle_pass(low: f64, high: f64, value: f64) -> Passed
     ensures { result ≡ passed_numbers (passing_value (Gate.Between low high) value) }
 {
     let reading = Reading { value, decimals: 0 };
-    passed_numbers(millkettle::pass(Gate::Between(low, high), reading))
+    millkettle::pass(Gate::Between(low, high), reading).into()
 }

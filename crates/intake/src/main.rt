@@ -4,15 +4,17 @@
 ghost use Rattle.std.specs.Prelude.{◌≡◌};
 ghost use Rattle.intake.specs.Standing.{goes_on, Through, Turned};
 
-use intake_feeding::KEPT_LIMIT;
-use intake_lines::Phase;
+use intake_feeding::{KEPT_LIMIT, Space};
+use intake_lines::{Buffers, Phase};
 use meaning::limits::{CODE_SIZE, TABLE_SIZE, WORKSPACE_SIZE};
+use std::io;
 use std::io::Read;
 
 // The bytes of the buffers for what is read and for what is written.
 const BUFFER_SIZE: usize = 65536;
 
-// Where the work stands between two pieces of the input, how many bytes of the present line are kept, and whether a write failed.
+// Where the work stands between two pieces of the input, how many bytes of the present line are kept, and whether a write failed,
+// beside which the others keep their meaning: `Through` speaks of all three.
 #[derive(Clone, Copy)]
 struct Standing {
     phase: Phase,
@@ -24,23 +26,16 @@ struct Standing {
 fn goes_on(standing: Standing) -> bool
     ensures { result ≡ goes_on standing }
 {
-    let phase = standing.phase;
-    match phase {
-        Phase::Over => false,
-        Phase::Pattern => !standing.failed,
-        Phase::Texts => !standing.failed,
-    }
+    standing.phase != Phase::Over && !standing.failed
 }
 
-// Writes to standard output, or says that it cannot.
-fn send(rt: &(impl Print + Eprint), text: &[u8]) -> bool {
-    match rt.write_all(text) {
-        Ok(()) => true,
-        Err(_) => {
-            let _ = eprintln!(rt; "intake: standard output cannot be written");
-            false
-        }
+// Writes to standard output, and says so if it cannot.
+fn send(rt: &(impl Print + Eprint), text: &[u8]) -> io::Result<()> {
+    let sent = rt.write_all(text);
+    if sent.is_err() {
+        let _ = eprintln!(rt; "intake: standard output cannot be written");
     }
+    sent
 }
 
 // A piece of the input, with a write for each buffer that it fills; a write that fails is the last.
@@ -48,33 +43,23 @@ fn work_through(
     rt: &(impl Print + Eprint),
     standing: Standing,
     piece: &[u8],
-    line: &mut [u8; KEPT_LIMIT],
-    table: &mut [u32; TABLE_SIZE],
-    code: &mut [u32; CODE_SIZE],
-    workspace: &mut [u32; WORKSPACE_SIZE],
+    space: &mut Space,
     out: &mut [u8; BUFFER_SIZE],
 ) -> Standing
-    ensures { Through standing piece.now line.old line.new code.old
-        code.new result }
+    ensures { Through standing piece.now space.old.line space.new.line space.old.buffers.code
+        space.new.buffers.code result }
 {
-    let first = standing.phase;
     let mut now = Standing {
-        phase: first,
-        kept: standing.kept,
         failed: false,
+        ..standing
     };
     let mut from = 0;
     while from < piece.len() && !now.failed {
-        let phase = now.phase;
-        let rest = &piece[from..];
-        let fed = intake_feeding::feed(phase, now.kept, rest, line, table, code, workspace, out);
-        let end = fed.end;
-        let text: &[u8] = out;
-        let next = fed.phase;
+        let fed = intake_feeding::feed(now.phase, now.kept, &piece[from..], space, out);
         now = Standing {
-            phase: next,
+            phase: fed.phase,
             kept: fed.kept,
-            failed: !send(rt, &text[..end]),
+            failed: send(rt, &out[..fed.end]).is_err(),
         };
         from += fed.taken;
     }
@@ -86,62 +71,49 @@ fn turn(
     rt: &(impl Print + Eprint),
     standing: Standing,
     piece: &[u8],
-    line: &mut [u8; KEPT_LIMIT],
-    table: &mut [u32; TABLE_SIZE],
-    code: &mut [u32; CODE_SIZE],
-    workspace: &mut [u32; WORKSPACE_SIZE],
+    space: &mut Space,
     out: &mut [u8; BUFFER_SIZE],
 ) -> Standing
-    ensures { Turned standing piece.now line.old line.new code.old
-        code.new out.old out.new result }
+    ensures { Turned standing piece.now space.old.line space.new.line space.old.buffers.code
+        space.new.buffers.code out.old out.new result }
 {
     if piece.len() > 0 {
-        return work_through(rt, standing, piece, line, table, code, workspace, out);
+        return work_through(rt, standing, piece, space, out);
     }
-    let phase = standing.phase;
-    let fed = intake_feeding::finish(phase, standing.kept, line, table, code, workspace, out);
-    let end = fed.end;
-    let text: &[u8] = out;
+    let fed = intake_feeding::finish(standing.phase, standing.kept, space, out);
     Standing {
         phase: Phase::Over,
         kept: 0,
-        failed: !send(rt, &text[..end]),
+        failed: send(rt, &out[..fed.end]).is_err(),
     }
 }
 
-// A proved loop has to end, and nothing says that the input does: the turns count down from a number that no run uses up.
+// A proved loop has to end, and nothing says that the input does: there are more turns than any run takes.
 fn main(rt: HostRuntime) {
     let mut chunk = [0u8; BUFFER_SIZE];
     let mut out = [0u8; BUFFER_SIZE];
-    let mut line = [0u8; KEPT_LIMIT];
-    let mut table = [0u32; TABLE_SIZE];
-    let mut code = [0u32; CODE_SIZE];
-    let mut workspace = [0u32; WORKSPACE_SIZE];
+    let mut space = Space {
+        line: [0; KEPT_LIMIT],
+        buffers: Buffers {
+            table: [0; TABLE_SIZE],
+            code: [0; CODE_SIZE],
+            workspace: [0; WORKSPACE_SIZE],
+        },
+    };
     let mut standing = Standing {
         phase: Phase::Pattern,
         kept: 0,
         failed: false,
     };
     let mut input = rt.stdin();
-    let mut turns = u64::MAX;
-    while turns > 0 && goes_on(standing) {
-        let n = match input.read(&mut chunk) {
-            Ok(n) => n,
-            Err(_) => {
-                let _ = eprintln!(rt; "intake: standard input cannot be read");
-                return;
-            }
+    for _ in 0..u64::MAX {
+        if !goes_on(standing) {
+            return;
+        }
+        let Ok(n) = input.read(&mut chunk) else {
+            let _ = eprintln!(rt; "intake: standard input cannot be read");
+            return;
         };
-        standing = turn(
-            &rt,
-            standing,
-            &chunk[..n],
-            &mut line,
-            &mut table,
-            &mut code,
-            &mut workspace,
-            &mut out,
-        );
-        turns -= 1;
+        standing = turn(&rt, standing, &chunk[..n], &mut space, &mut out);
     }
 }

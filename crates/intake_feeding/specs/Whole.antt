@@ -4,8 +4,8 @@ use Rattle.std.proofs.Common.{sym, ap, ap₂, ◌∙◌, append-nil, append_asso
 use Rattle.std.proofs.lemmas.List.{take-append-le}
 use Rattle.meaning.specs.Results.{concat_map}
 use Rattle.reading_items.specs.Reading.{Reading.refused, reading}
-use Rattle.compiler.specs.declared.Compilation.{Compilation}
-use Rattle.compiler.specs.declared.Compilation.TheVariants.{Rows, Refused}
+use Rattle.compiler.specs.Compiling.{Compilation}
+use Rattle.compiler.specs.Compiling.{Compilation.Rows, Compilation.Refused}
 use Rattle.intake_report.specs.Lines.{lines_of, on_first}
 use Rattle.intake_lines.specs.Intake.{line_limit}
 use Rattle.meaning.specs.Limits.{pattern_limit, table_size, code_size, line_feed}

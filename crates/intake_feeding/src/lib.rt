@@ -1,20 +1,21 @@
 // The intake's work on an input that comes in pieces: bytes are kept until their line ends, and its line is written to a buffer.
 #![tactic(auto)]
 
-ghost use Rattle.std.specs.Prelude.{◌≡◌, ◌+◌, ◌≤◌, min, length};
+ghost use Rattle.std.specs.Prelude.{◌≡◌, ◌+◌, ◌≤◌, length};
 ghost use Rattle.intake_lines.specs.Ended.{line_room};
 ghost use Rattle.intake_feeding.specs.Work.{kept_limit, last_bytes};
 ghost use Rattle.intake_feeding.specs.Fed.{work_of, Keeps, Steps, Feeds, Untouched};
 
-use intake_lines::{LINE_LIMIT, LINE_ROOM, Phase};
-use meaning::limits::{CODE_SIZE, LF, TABLE_SIZE, WORKSPACE_SIZE};
+use intake_lines::{Buffers, LINE_LIMIT, LINE_ROOM, Phase};
+use meaning::limits::LF;
 
 // A line is kept up to one byte more than its limit, which shows that it is too long.
 pub const KEPT_LIMIT: usize = LINE_LIMIT + 1;
 
 // Where the work stands, how many bytes are kept of the present line and taken of the piece, where what was written ends, and
-// whether bytes of the piece are left since there is no room for a line more.
-#[derive(Drop)]
+// whether bytes of the piece are left since there is no room for a line more. `full` is a fact of its own, beside which no other
+// value is void: `Feeds` says when it holds.
+#[derive(Clone, Copy, Debug, PartialEq, Eq)]
 pub struct Fed {
     pub phase: Phase,
     pub kept: usize,
@@ -23,11 +24,11 @@ pub struct Fed {
     pub full: bool,
 }
 
-// Of what is said to be kept, as much as the line has.
-fn clamp(kept: usize, line: &[u8]) -> usize
-    ensures { result ≡ min kept (length line.now) }
-{
-    if kept < line.len() { kept } else { line.len() }
+// The bytes of the present line, and what its end needs.
+#[derive(Drop)]
+pub struct Space {
+    pub line: [u8; KEPT_LIMIT],
+    pub buffers: Buffers,
 }
 
 // A byte more of the present line. It asks for the whole line buffer, and that no more bytes are kept than there may be.
@@ -43,36 +44,22 @@ fn keep(line: &mut [u8], kept: usize, byte: u8) -> usize
 }
 
 // The next byte of a piece. It asks that no more bytes are kept than there may be, and for room for a line.
-fn step(
-    fed: Fed,
-    byte: u8,
-    line: &mut [u8; KEPT_LIMIT],
-    table: &mut [u32; TABLE_SIZE],
-    code: &mut [u32; CODE_SIZE],
-    workspace: &mut [u32; WORKSPACE_SIZE],
-    out: &mut [u8],
-) -> Fed
+fn step(fed: Fed, byte: u8, space: &mut Space, out: &mut [u8]) -> Fed
     requires { (fed.kept ≤ kept_limit) × (fed.end + line_room ≤ length out.old) }
-    ensures { Steps fed byte line.old line.new code.old code.new
-        out.old out.new result }
+    ensures { Steps fed byte space.old.line space.new.line space.old.buffers.code
+        space.new.buffers.code out.old out.new result }
 {
-    let phase = fed.phase;
-    let kept = fed.kept;
-    let at = fed.end;
     if byte != LF {
         return Fed {
-            phase,
-            kept: keep(line, kept, byte),
-            taken: fed.taken,
-            end: at,
+            kept: keep(&mut space.line, fed.kept, byte),
             full: false,
+            ..fed
         };
     }
-    let bytes: &[u8] = line;
-    let ended = intake_lines::end_line(phase, &bytes[..kept], table, code, workspace, out, at);
-    let next = ended.phase;
+    let line = &space.line[..fed.kept];
+    let ended = intake_lines::end_line(fed.phase, line, &mut space.buffers, out, fed.end);
     Fed {
-        phase: next,
+        phase: ended.phase,
         kept: 0,
         taken: fed.taken,
         end: ended.end,
@@ -81,54 +68,41 @@ fn step(
 }
 
 // A piece of the input, as far as there is room for a line. Where no byte is taken nothing changes.
-pub fn feed(
-    phase: Phase,
-    kept: usize,
-    piece: &[u8],
-    line: &mut [u8; KEPT_LIMIT],
-    table: &mut [u32; TABLE_SIZE],
-    code: &mut [u32; CODE_SIZE],
-    workspace: &mut [u32; WORKSPACE_SIZE],
-    out: &mut [u8],
-) -> Fed
-    ensures feeds { Feeds phase kept piece.now line.old line.new code.old
-        code.new out.old out.new result }
-    ensures untouched { result.taken ≡ 0 → Untouched line.old line.new table.old table.new
-        workspace.old workspace.new }
+pub fn feed(phase: Phase, kept: usize, piece: &[u8], space: &mut Space, out: &mut [u8]) -> Fed
+    ensures feeds { Feeds phase kept piece.now space.old.line space.new.line space.old.buffers.code
+        space.new.buffers.code out.old out.new result }
+    ensures untouched { result.taken ≡ 0 → Untouched space.old.line space.new.line space.old.buffers.table
+        space.new.buffers.table space.old.buffers.workspace space.new.buffers.workspace }
 {
     let mut fed = Fed {
         phase,
-        kept: clamp(kept, line),
+        kept: kept.min(space.line.len()),
         taken: 0,
         end: 0,
         full: false,
     };
-    while fed.taken < piece.len() && LINE_ROOM <= out.len() - fed.end {
-        let at = fed.taken;
-        fed = step(fed, piece[at], line, table, code, workspace, out);
-        fed.taken = at + 1;
+    for byte in piece {
+        if out.len() - fed.end < LINE_ROOM {
+            break;
+        }
+        fed = Fed {
+            taken: fed.taken + 1,
+            ..step(fed, *byte, space, out)
+        };
     }
     fed.full = fed.taken < piece.len();
     fed
 }
 
 // The input's end: a last line without LF counts unless it is empty, as if LF ended it.
-pub fn finish(
-    phase: Phase,
-    kept: usize,
-    line: &mut [u8; KEPT_LIMIT],
-    table: &mut [u32; TABLE_SIZE],
-    code: &mut [u32; CODE_SIZE],
-    workspace: &mut [u32; WORKSPACE_SIZE],
-    out: &mut [u8],
-) -> Fed
-    ensures feeds { Feeds phase kept (last_bytes (work_of phase kept line.old code.old))
-        line.old line.new code.old code.new out.old out.new result }
-    ensures untouched { result.taken ≡ 0 → Untouched line.old line.new table.old table.new
-        workspace.old workspace.new }
+pub fn finish(phase: Phase, kept: usize, space: &mut Space, out: &mut [u8]) -> Fed
+    ensures feeds { Feeds phase kept (last_bytes (work_of phase kept space.old.line space.old.buffers.code))
+        space.old.line space.new.line space.old.buffers.code space.new.buffers.code out.old out.new result }
+    ensures untouched { result.taken ≡ 0 → Untouched space.old.line space.new.line space.old.buffers.table
+        space.new.buffers.table space.old.buffers.workspace space.new.buffers.workspace }
 {
-    if clamp(kept, line) == 0 {
-        return feed(phase, kept, b"", line, table, code, workspace, out);
+    if kept == 0 {
+        return feed(phase, kept, b"", space, out);
     }
-    feed(phase, kept, b"\n", line, table, code, workspace, out)
+    feed(phase, kept, b"\n", space, out)
 }

@@ -1,7 +1,7 @@
 -- What the end of a line brings, by where the work stands. Definitions only.
 use Rattle.std.specs.Prelude.{◌≡◌, List, [], ℕ, ◌+◌, ◌*◌}
 use Rattle.millkettle.specs.Calls.{Compilation}
-use Rattle.millkettle.specs.Calls.Compilation.{Rows, Refused}
+use Rattle.millkettle.specs.Calls.Compiling.{Rows, Refused}
 use Rattle.intake_report.specs.Wrote.{Wrote}
 use Rattle.intake_lines.specs.Intake.{register_count, compiled, code_from, pattern_line, line_for}
 use Rattle.intake_lines.specs.declared.Phase.{Phase}

@@ -10,7 +10,7 @@ use Rattle.machine.specs.Replies.{Reply, Reply.found, Reply.missing, Reply.refus
 use Rattle.reading_items.specs.Reading.{reading}
 use Rattle.millkettle.specs.Calls.Compiling.{plain, answer_by, code_left}
 use Rattle.millkettle.specs.Calls.{Compilation}
-use Rattle.millkettle.specs.Calls.Compilation.{Rows, Refused}
+use Rattle.millkettle.specs.Calls.Compiling.{Rows, Refused}
 use Rattle.intake_report.specs.Texts.{spans_line, header_line, refused_at, refused_run, none_line}
 use Rattle.intake_report.specs.Lines.{lines_of}
 

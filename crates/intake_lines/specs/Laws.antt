@@ -15,7 +15,7 @@ use Rattle.millkettle.specs.Calls.Compiling.{plain, Compiles, answer_by, code_le
 use Rattle.millkettle.specs.Calls.{Compilation}
 use Rattle.millkettle.specs.Calls.Answers.{reply_of, Answered}
 use Rattle.millkettle.specs.Calls.{Answer}
-use Rattle.millkettle.specs.Calls.Answer.{Found}
+use Rattle.millkettle.specs.Calls.Answers.{Found}
 use Rattle.intake_report.specs.Texts.{refused_run}
 use Rattle.intake_report.specs.Wrote.{Wrote, wrote_none, wrote_as}
 use Rattle.intake_lines.specs.Intake.{line_limit, register_count}

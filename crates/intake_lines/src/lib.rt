@@ -10,7 +10,8 @@ ghost use Rattle.intake_lines.specs.declared.Phase.TheVariants.{Pattern};
 
 use machine::GROUPS;
 use meaning::limits::{CODE_SIZE, REGISTER_LIMIT, TABLE_SIZE, WORKSPACE_SIZE};
-use millkettle::{Answer, Compilation};
+use meaning::refusals::Refusal;
+use millkettle::Answer;
 
 // The most bytes of a line.
 pub const LINE_LIMIT: usize = 4096;
@@ -18,7 +19,7 @@ pub const LINE_LIMIT: usize = 4096;
 pub const LINE_ROOM: usize = 12 * REGISTER_LIMIT + 1;
 
 // Where the work stands: at the pattern line, at text lines, or over, since the pattern was refused.
-#[derive(Clone, Copy)]
+#[derive(Clone, Copy, Debug, PartialEq, Eq)]
 pub enum Phase {
     Pattern,
     Texts,
@@ -26,10 +27,18 @@ pub enum Phase {
 }
 
 // Behind a line: where the work stands, and where what was written for it ends.
-#[derive(Drop)]
+#[derive(Clone, Copy, Debug, PartialEq, Eq)]
 pub struct Ended {
     pub phase: Phase,
     pub end: usize,
+}
+
+// What lines need beside their bytes: a pattern's table, its code, and what a search asks for.
+#[derive(Drop)]
+pub struct Buffers {
+    pub table: [u32; TABLE_SIZE],
+    pub code: [u32; CODE_SIZE],
+    pub workspace: [u32; WORKSPACE_SIZE],
 }
 
 // The line for a text line. It asks for room.
@@ -44,16 +53,16 @@ fn put_text_line(
     ensures { Wrote out.old out.new at (line_for code.now line.now) result }
 {
     if line.len() > LINE_LIMIT {
-        return intake_report::put_refused(out, at, meaning::refusals::LONG_TEXT as u64);
+        return intake_report::put_refused(out, at, u64::from(Refusal::LongText.number()));
     }
     let mut registers = [0i32; REGISTER_LIMIT];
     match millkettle::search(code, line, 0, &mut registers, workspace) {
-        Answer::Found(_) => {
+        Ok(Answer::Found(_)) => {
             let groups = code[GROUPS] as usize;
             intake_report::put_spans(out, at, &registers, 2 * (groups + 1))
         }
-        Answer::Missing(_) => intake_report::put_none(out, at),
-        Answer::Refused(number) => intake_report::put_refused(out, at, number as u64),
+        Ok(Answer::Missing(_)) => intake_report::put_none(out, at),
+        Err(why) => intake_report::put_refused(out, at, why.number() as u64),
     }
 }
 
@@ -70,13 +79,18 @@ fn put_pattern_line(
         out.new at result }
 {
     match millkettle::compile(pattern, table, code) {
-        Compilation::Rows { rows, groups } => Ended {
+        Ok(program) => Ended {
             phase: Phase::Texts,
-            end: intake_report::put_header(out, at, rows as u64, groups as u64),
+            end: intake_report::put_header(out, at, program.rows as u64, program.groups as u64),
         },
-        Compilation::Refused { number, place } => Ended {
+        Err(refused) => Ended {
             phase: Phase::Over,
-            end: intake_report::put_refused_at(out, at, number as u64, place as u64),
+            end: intake_report::put_refused_at(
+                out,
+                at,
+                u64::from(refused.why.number()),
+                refused.place as u64,
+            ),
         },
     }
 }
@@ -85,21 +99,19 @@ fn put_pattern_line(
 pub fn end_line(
     phase: Phase,
     line: &[u8],
-    table: &mut [u32; TABLE_SIZE],
-    code: &mut [u32; CODE_SIZE],
-    workspace: &mut [u32; WORKSPACE_SIZE],
+    buffers: &mut Buffers,
     out: &mut [u8],
     at: usize,
 ) -> Ended
     requires { at + line_room ≤ length out.old }
-    ensures { Ends phase line.now code.old code.new out.old
+    ensures { Ends phase line.now buffers.old.code buffers.new.code out.old
         out.new at result }
 {
     match phase {
-        Phase::Pattern => put_pattern_line(line, table, code, out, at),
+        Phase::Pattern => put_pattern_line(line, &mut buffers.table, &mut buffers.code, out, at),
         Phase::Texts => Ended {
             phase: Phase::Texts,
-            end: put_text_line(code, line, workspace, out, at),
+            end: put_text_line(&buffers.code, line, &mut buffers.workspace, out, at),
         },
         Phase::Over => Ended {
             phase: Phase::Over,

@@ -1,7 +1,7 @@
 // What the intake program writes, as bytes into a lent buffer, and where its lines end.
 #![tactic(auto)]
 
-ghost use Rattle.std.specs.Prelude.{◌≡◌, [], ◌∷◌, ◌+◌, ◌*◌, ◌≤◌, ◌<◌, nat_abs, length, take};
+ghost use Rattle.std.specs.Prelude.{◌≡◌, [], ◌∷◌, ◌+◌, ◌*◌, ◌≤◌, ◌<◌, length, take};
 ghost use Rattle.intake_report.specs.Texts.{decimal, shown_number, spans_line, two_numbers};
 ghost use Rattle.intake_report.specs.Texts.{header_line, refused_at, refused_run, none_line};
 ghost use Rattle.intake_report.specs.Lines.{FoundLf};
@@ -18,17 +18,14 @@ fn put_byte(out: &mut [u8], at: usize, byte: u8) -> usize
     at + 1
 }
 
-// A text, copied byte by byte.
+// A text, copied.
 fn put_text(out: &mut [u8], at: usize, text: &[u8]) -> usize
     requires { at + length text.now ≤ length out.old }
     ensures { Wrote out.old out.new at text.now result }
 {
-    let mut i = 0;
-    while i < text.len() {
-        out[at + i] = text[i];
-        i += 1;
-    }
-    at + i
+    let end = at + text.len();
+    out[at..end].copy_from_slice(text);
+    end
 }
 
 // A number in decimal: the digits of its tenth, then the last.
@@ -37,10 +34,10 @@ fn put_digits(out: &mut [u8], at: usize, value: u64) -> usize
     ensures { Wrote out.old out.new at (decimal value) result }
 {
     if value < 10 {
-        return put_byte(out, at, (48 + value) as u8);
+        return put_byte(out, at, b'0' + value as u8);
     }
     let last = put_digits(out, at, value / 10);
-    put_byte(out, last, (48 + value % 10) as u8)
+    put_byte(out, last, b'0' + (value % 10) as u8)
 }
 
 // A number in decimal: a u64 has at most 20 digits.
@@ -51,27 +48,17 @@ pub fn put_decimal(out: &mut [u8], at: usize, value: u64) -> usize
     put_digits(out, at, value)
 }
 
-// A number without its sign; an i64 has room for that of the least i32.
-fn magnitude(value: i32) -> u64
-    ensures { result ≡ nat_abs value }
-{
-    if value < 0 {
-        let wide = value as i64;
-        return (0 - wide) as u64;
-    }
-    value as u64
-}
-
 // A signed number: an i32 has at most 10 digits and a minus sign.
 pub fn put_number(out: &mut [u8], at: usize, value: i32) -> usize
     requires { at + 11 ≤ length out.old }
     ensures { Wrote out.old out.new at (shown_number value) result }
 {
-    if value < 0 {
-        let digits = put_byte(out, at, b'-');
-        return put_digits(out, digits, magnitude(value));
-    }
-    put_digits(out, at, magnitude(value))
+    let digits = if value < 0 {
+        put_byte(out, at, b'-')
+    } else {
+        at
+    };
+    put_digits(out, digits, u64::from(value.unsigned_abs()))
 }
 
 // The line for a match: the first registers, with a space between two.
@@ -79,15 +66,13 @@ pub fn put_spans(out: &mut [u8], at: usize, registers: &[i32], count: usize) -> 
     requires { (count ≤ length registers.now) × (at + 12 * count + 1 ≤ length out.old) }
     ensures { Wrote out.old out.new at (spans_line (take count registers.now)) result }
 {
-    if count == 0 {
-        return put_byte(out, at, LF);
-    }
-    let mut end = put_number(out, at, registers[0]);
-    let mut i = 1;
-    while i < count {
-        let gap = put_byte(out, end, b' ');
-        end = put_number(out, gap, registers[i]);
-        i += 1;
+    let mut end = at;
+    if let Some((first, rest)) = registers[..count].split_first() {
+        end = put_number(out, at, *first);
+        for register in rest {
+            let gap = put_byte(out, end, b' ');
+            end = put_number(out, gap, *register);
+        }
     }
     put_byte(out, end, LF)
 }
@@ -144,12 +129,8 @@ pub fn find_lf(bytes: &[u8], from: usize, to: usize) -> usize
     requires { (from ≤ to) × (to ≤ length bytes.now) }
     ensures { FoundLf bytes.now from to result }
 {
-    let mut i = from;
-    while i < to {
-        if bytes[i] == LF {
-            return i;
-        }
-        i += 1;
-    }
-    i
+    bytes[from..to]
+        .iter()
+        .position(|b| *b == LF)
+        .map_or(to, |i| from + i)
 }

@@ -10,9 +10,8 @@ pub fn read_full(input: &mut impl Read, buffer: &mut [u8]) -> usize
     let mut done = 0;
     while done < buffer.len() {
         match input.read(&mut buffer[done..]) {
-            Ok(0) => return done,
+            Ok(0) | Err(_) => return done,
             Ok(count) => done += count,
-            Err(_) => return done,
         }
     }
     done

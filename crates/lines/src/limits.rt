@@ -1,186 +1,154 @@
 // The ends of what a run takes. A text longer than any that is taken is a question for the host's tests.
-use crate::answers::{code_of, run, say, say_answer, say_listing, say_number, say_run};
+ghost use Rattle.std.specs.Prelude.{◌<◌};
+
+use crate::answers::{ENGINE_WORDS, code_of, run, say_listing, say_run, say_spans};
+use millkettle::{Answer, Refusal};
+use std::io;
 
 // A position that 16 bits do not hold.
-pub fn far(rt: &impl Print) {
+pub fn far(rt: &impl Print) -> io::Result<()> {
     let mut text = [97u8; 70001];
     text[70000] = 98;
-    let code = code_of(b"b");
-    say(rt, b"search 0 b on 70000 a and b");
-    run(rt, true, &code, &text, 0);
+    print!(rt; "search 0 b on 70000 a and b")?;
+    run(
+        rt,
+        millkettle::search,
+        ENGINE_WORDS,
+        &code_of(b"b"),
+        &text,
+        0,
+    )
 }
 
-// What is lent to a call, by its lengths.
-fn say_lent(
-    rt: &impl Print,
+// What is lent to a call on the text `a`, by its lengths: words of the code of `a`, registers or a list, and workspace.
+#[derive(Clone, Copy)]
+struct Lent {
     code: usize,
-    text: usize,
     start: usize,
-    registers: usize,
+    list: usize,
     workspace: usize,
-) {
-    say_number(rt, b"match a in code ", code as u64);
-    say_number(rt, b" text ", text as u64);
-    say_number(rt, b" from ", start as u64);
-    say_number(rt, b" registers ", registers as u64);
-    say_number(rt, b" workspace ", workspace as u64);
 }
 
-// A call with that many registers and words of a workspace, at most 4 and 288.
-fn lend(
-    rt: &impl Print,
-    code: &[u32],
-    text: &[u8],
-    start: usize,
-    registers: usize,
-    workspace: usize,
-) {
-    say_lent(rt, code.len(), text.len(), start, registers, workspace);
-    let mut values = [7i32; 4];
-    let mut words = [5u32; 288];
-    if registers <= 4 {
-        if workspace <= 288 {
-            let answer = millkettle::match_at(
-                code,
-                text,
-                start,
-                &mut values[0..registers],
-                &mut words[0..workspace],
-            );
-            say_answer(rt, answer, &values);
+impl Lent {
+    fn new(code: usize, start: usize, list: usize, workspace: usize) -> Lent {
+        Lent {
+            code,
+            start,
+            list,
+            workspace,
         }
     }
-}
 
-// The same call for every match, with so many words of a list, at most 8.
-fn lend_all(
-    rt: &impl Print,
-    code: &[u32],
-    text: &[u8],
-    start: usize,
-    words: usize,
-    workspace: usize,
-) {
-    say_number(rt, b"all of a in code ", code.len() as u64);
-    say_number(rt, b" text ", text.len() as u64);
-    say_number(rt, b" from ", start as u64);
-    say_number(rt, b" list ", words as u64);
-    say_number(rt, b" workspace ", workspace as u64);
-    let mut list = [7i32; 8];
-    let mut work = [5u32; 288];
-    if words <= 8 {
-        if workspace <= 288 {
-            let listing = millkettle::search_all(
-                code,
-                text,
-                start,
-                &mut list[0..words],
-                &mut work[0..workspace],
-            );
-            say_listing(rt, listing, &list);
-        }
+    fn say(&self, rt: &impl Print, call: &str, list: &str) -> io::Result<()> {
+        print!(rt;
+            "{call} a in code {} text 1 from {} {list} {} workspace {}",
+            self.code, self.start, self.list, self.workspace
+        )
+    }
+
+    // The call's answer. A workspace has at most 288 words.
+    fn call<A, F>(&self, call: F, list: &mut [i32]) -> Option<A>
+    where
+        F: FnOnce(&[u32], &[u8], usize, &mut [i32], &mut [u32]) -> A,
+        requires { F.IsAlwaysCallable call }
+    {
+        let code = code_of(b"a");
+        let mut workspace = [5u32; 288];
+        Some(call(
+            code.get(..self.code)?,
+            b"a",
+            self.start,
+            list.get_mut(..self.list)?,
+            workspace.get_mut(..self.workspace)?,
+        ))
     }
 }
 
 // All that turns a run away but a long text, and then one thing less in each line: the refusals in order, with both sides of
 // each limit.
-pub fn in_order(rt: &impl Print) {
-    let code = code_of(b"a");
-    let words = &code[..];
-    let enough = &words[0..120];
-    let text = b"a";
-    lend(rt, &words[0..119], text, 2, 1, 287);
-    lend(rt, enough, text, 2, 1, 287);
-    lend(rt, enough, text, 1, 1, 287);
-    lend(rt, enough, text, 1, 2, 287);
-    lend(rt, enough, text, 1, 2, 288);
+fn runs_in_order<F>(rt: &impl Print, name: &str, call: F, enough: usize) -> io::Result<()>
+where
+    F: Fn(&[u32], &[u8], usize, &mut [i32], &mut [u32]) -> Result<Answer, Refusal>,
+    requires always { F.IsAlwaysCallable call }
+    requires some { 0 < enough }
+{
+    let few = enough - 1;
+    for lent in [
+        Lent::new(119, 2, 1, few),
+        Lent::new(120, 2, 1, few),
+        Lent::new(120, 1, 1, few),
+        Lent::new(120, 1, 2, few),
+        Lent::new(120, 1, 2, enough),
+    ] {
+        let mut registers = [7i32; 4];
+        lent.say(rt, name, "registers")?;
+        if let Some(answer) = lent.call(&call, &mut registers) {
+            say_run(rt, answer)?;
+            say_spans(rt, &registers)?;
+        }
+    }
+    Ok(())
+}
+
+pub fn in_order(rt: &impl Print) -> io::Result<()> {
+    runs_in_order(rt, "match", millkettle::match_at, 288)
+}
+
+// The same in order, for the second engine: `a` on a text of one byte needs 9 * 10 * 2 + 2 words.
+pub fn plain_in_order(rt: &impl Print) -> io::Result<()> {
+    runs_in_order(rt, "plain match", millkettle::second_match, 182)
+}
+
+// The same in order, for every match.
+pub fn all_in_order(rt: &impl Print) -> io::Result<()> {
+    for lent in [
+        Lent::new(119, 2, 1, 287),
+        Lent::new(120, 2, 1, 287),
+        Lent::new(120, 0, 1, 287),
+        Lent::new(120, 0, 1, 288),
+        Lent::new(120, 0, 2, 288),
+    ] {
+        let mut list = [7i32; 8];
+        lent.say(rt, "all of", "list")?;
+        if let Some(listing) = lent.call(millkettle::search_all, &mut list) {
+            say_listing(rt, listing, &list)?;
+        }
+    }
+    Ok(())
 }
 
 // The most groups, around one byte: each of the 64 registers is written.
-pub fn groups(rt: &impl Print) {
+pub fn groups(rt: &impl Print) -> io::Result<()> {
     let mut table = [0u32; 2048];
     let mut code = [0u32; 864];
     let mut registers = [7i32; 64];
     let mut workspace = [5u32; 37488];
     let pattern = b"(((((((((((((((((((((((((((((((a)))))))))))))))))))))))))))))))";
-    millkettle::compile(pattern, &mut table, &mut code);
-    say(rt, b"match a in 31 groups on \"a\"");
+    let _ = millkettle::compile(pattern, &mut table, &mut code);
+    print!(rt; "match a in 31 groups on \"a\"")?;
     say_run(
         rt,
         millkettle::match_at(&code, b"a", 0, &mut registers, &mut workspace),
-    );
-    let mut line = [0u8; 1280];
-    let end = intake_report::put_spans(&mut line, 0, &registers, 64);
-    say(rt, b": ");
-    say(rt, &line[0..end]);
-}
-
-pub fn all_in_order(rt: &impl Print) {
-    let code = code_of(b"a");
-    let words = &code[..];
-    let enough = &words[0..120];
-    let text = b"a";
-    lend_all(rt, &words[0..119], text, 2, 1, 287);
-    lend_all(rt, enough, text, 2, 1, 287);
-    lend_all(rt, enough, text, 0, 1, 287);
-    lend_all(rt, enough, text, 0, 1, 288);
-    lend_all(rt, enough, text, 0, 2, 288);
+    )?;
+    say_spans(rt, &registers)
 }
 
 // The second engine's search for `b`, in the words that it needs for the longest text.
-fn search_plain(rt: &impl Print, text: &[u8]) {
+fn search_plain(rt: &impl Print, text: &[u8]) -> io::Result<()> {
     let code = code_of(b"b");
     let mut registers = [7i32; 4];
     let mut words = [5u32; 368732];
-    say_number(rt, b"plain search 0 b on ", text.len() as u64);
-    say(rt, b" a");
-    let answer = millkettle::second_search(&code, text, 0, &mut registers, &mut words);
-    say_answer(rt, answer, &registers);
+    print!(rt; "plain search 0 b on {} a", text.len())?;
+    say_run(
+        rt,
+        millkettle::second_search(&code, text, 0, &mut registers, &mut words),
+    )?;
+    say_spans(rt, &registers)
 }
 
 // The longest text that the second engine takes, and one byte more.
-pub fn plain_far(rt: &impl Print) {
+pub fn plain_far(rt: &impl Print) -> io::Result<()> {
     let text = [97u8; 4097];
-    search_plain(rt, &text[0..4096]);
-    search_plain(rt, &text);
-}
-
-// A call of the second engine with that many registers and words of a workspace, at most 4 and 182.
-fn lend_plain(
-    rt: &impl Print,
-    code: &[u32],
-    text: &[u8],
-    start: usize,
-    registers: usize,
-    workspace: usize,
-) {
-    say(rt, b"plain ");
-    say_lent(rt, code.len(), text.len(), start, registers, workspace);
-    let mut values = [7i32; 4];
-    let mut words = [5u32; 182];
-    if registers <= 4 {
-        if workspace <= 182 {
-            let answer = millkettle::second_match(
-                code,
-                text,
-                start,
-                &mut values[0..registers],
-                &mut words[0..workspace],
-            );
-            say_answer(rt, answer, &values);
-        }
-    }
-}
-
-// The same in order, for the second engine: `a` on a text of one byte needs 9 * 10 * 2 + 2 words.
-pub fn plain_in_order(rt: &impl Print) {
-    let code = code_of(b"a");
-    let words = &code[..];
-    let enough = &words[0..120];
-    let text = b"a";
-    lend_plain(rt, &words[0..119], text, 2, 1, 181);
-    lend_plain(rt, enough, text, 2, 1, 181);
-    lend_plain(rt, enough, text, 1, 1, 181);
-    lend_plain(rt, enough, text, 1, 2, 181);
-    lend_plain(rt, enough, text, 1, 2, 182);
+    search_plain(rt, &text[..4096])?;
+    search_plain(rt, &text)
 }

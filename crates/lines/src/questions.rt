@@ -2,176 +2,144 @@
 // the words of the list, `compile PATTERN` and `tidied PATTERN`, and `rows` with rows by hand, `every` with rows of which every
 // match is asked for, or `unused` with a 1 in each word that they do not use; readings.rt has those on fields
 // and gates. Behind `plain` stands a match, a search or rows for the second engine.
-ghost use Rattle.std.specs.Prelude.{◌≡◌, ◌-◌, ◌<◌, ◌≤◌, length, get_or};
+ghost use Rattle.std.specs.Prelude.{◌≡◌, ◌-◌, get_or};
 
-use crate::answers::{code_of, compiled, found, say, tidied};
-use crate::{answers, made, readings};
+use crate::answers::{ENGINE_WORDS, SECOND_WORDS, code_of, compiled, found, list, run, tidied};
+use crate::{made, readings};
+use meaning::limits::LF;
+use millkettle::{match_at, search, second_match, second_search};
+use std::io;
 
 // The byte at a place, or 0 behind the end.
 pub fn byte_at(line: &[u8], at: usize) -> u8
     ensures { result ≡ get_or line.now at 0 }
 {
-    if at < line.len() {
-        return line[at];
-    }
-    0
+    line.get(at).copied().unwrap_or(0)
 }
 
 // The number that a digit says: how far it is from `0`.
 pub fn digit_at(line: &[u8], at: usize) -> u8
     ensures { result ≡ get_or line.now at 0 - 48 }
 {
-    let byte = byte_at(line, at);
-    if byte < b'0' {
-        return 0;
-    }
-    byte - b'0'
+    byte_at(line, at).saturating_sub(b'0')
+}
+
+// The same as a place.
+fn place_at(line: &[u8], at: usize) -> usize {
+    usize::from(digit_at(line, at))
 }
 
 // The line from a place on.
 fn rest(line: &[u8], from: usize) -> &[u8] {
-    if from <= line.len() {
-        &line[from..]
-    } else {
-        &line[0..0]
-    }
+    line.get(from..).unwrap_or(&[])
 }
 
-fn on(rt: &impl Print, text: &[u8]) {
-    say(rt, b" on \"");
-    say(rt, text);
-    say(rt, b"\"");
-}
-
-// A pattern searched from a start on, or else matched there.
-fn run(rt: &impl Print, search: bool, pattern: &[u8], text: &[u8], start: usize) {
-    on(rt, text);
-    let code = code_of(pattern);
-    answers::run(rt, search, &code, text, start);
-}
-
-// The same by the second engine.
-fn run_plain(rt: &impl Print, search: bool, pattern: &[u8], text: &[u8], start: usize) {
-    let code = code_of(pattern);
-    answers::second(rt, search, &code, text, start);
+// The text that a question is about.
+fn on(rt: &impl Print, text: &[u8]) -> io::Result<()> {
+    rt.write_all(b" on \"")?;
+    rt.write_all(text)?;
+    rt.write_all(b"\"")
 }
 
 // A question to the second engine, by its first letter.
-fn ask_plain(rt: &impl Print, question: &[u8], text: &[u8]) {
-    on(rt, text);
-    match byte_at(question, 0) {
-        b'm' => run_plain(
-            rt,
-            false,
-            rest(question, 8),
-            text,
-            digit_at(question, 6) as usize,
-        ),
-        b's' => run_plain(
-            rt,
-            true,
-            rest(question, 9),
-            text,
-            digit_at(question, 7) as usize,
-        ),
-        _ => made::ask_plain(rt, rest(question, 4), text),
-    }
-}
-
-// A pattern found in one call.
-fn find(rt: &impl Print, pattern: &[u8], text: &[u8], start: usize) {
-    on(rt, text);
-    found(rt, pattern, text, start);
-}
-
-// Every match of a pattern, into so many words.
-fn all(rt: &impl Print, pattern: &[u8], text: &[u8], start: usize, words: usize) {
-    on(rt, text);
-    let code = code_of(pattern);
-    answers::list(rt, &code, text, start, words);
-}
-
-// One question, by its first letter.
-fn ask(rt: &impl Print, question: &[u8], text: &[u8]) {
-    say(rt, question);
+fn ask_plain(rt: &impl Print, question: &[u8], text: &[u8]) -> io::Result<()> {
     match byte_at(question, 0) {
         b'm' => run(
             rt,
-            false,
-            rest(question, 8),
+            second_match,
+            SECOND_WORDS,
+            &code_of(rest(question, 8)),
             text,
-            digit_at(question, 6) as usize,
+            place_at(question, 6),
         ),
         b's' => run(
             rt,
-            true,
-            rest(question, 9),
+            second_search,
+            SECOND_WORDS,
+            &code_of(rest(question, 9)),
             text,
-            digit_at(question, 7) as usize,
+            place_at(question, 7),
         ),
-        b'f' => find(rt, rest(question, 7), text, digit_at(question, 5) as usize),
-        b'a' => {
-            if byte_at(question, 1) == b'l' {
-                let start = digit_at(question, 4) as usize;
-                all(
-                    rt,
-                    rest(question, 8),
-                    text,
-                    start,
-                    digit_at(question, 6) as usize,
-                )
-            } else {
-                on(rt, text);
-                readings::gate(rt, question, text)
-            }
+        _ => run(
+            rt,
+            second_match,
+            SECOND_WORDS,
+            &made::code_of(rest(question, 4), 0),
+            text,
+            0,
+        ),
+    }
+}
+
+// A question about a text, by its first letter.
+fn ask_on(rt: &impl Print, question: &[u8], text: &[u8]) -> io::Result<()> {
+    on(rt, text)?;
+    match (byte_at(question, 0), byte_at(question, 1)) {
+        (b'm', _) => run(
+            rt,
+            match_at,
+            ENGINE_WORDS,
+            &code_of(rest(question, 8)),
+            text,
+            place_at(question, 6),
+        ),
+        (b's', _) => run(
+            rt,
+            search,
+            ENGINE_WORDS,
+            &code_of(rest(question, 9)),
+            text,
+            place_at(question, 7),
+        ),
+        (b'f', _) => found(rt, rest(question, 7), text, place_at(question, 5)),
+        (b'a', b'l') => {
+            let code = code_of(rest(question, 8));
+            list(
+                rt,
+                &code,
+                text,
+                place_at(question, 4),
+                place_at(question, 6),
+            )
         }
-        b'e' => {
-            on(rt, text);
-            made::list(rt, rest(question, 5), text)
-        }
+        (b'a' | b'b', _) => readings::gate(rt, question, text),
+        (b'e', _) => list(rt, &made::code_of(rest(question, 5), 0), text, 0, 8),
+        (b'n', _) => readings::number(rt, question, text),
+        (b'p', _) => ask_plain(rt, rest(question, 6), text),
+        (b'u', _) => run(
+            rt,
+            match_at,
+            ENGINE_WORDS,
+            &made::code_of(rest(question, 6), 1),
+            text,
+            0,
+        ),
+        _ => run(
+            rt,
+            match_at,
+            ENGINE_WORDS,
+            &made::code_of(rest(question, 4), 0),
+            text,
+            0,
+        ),
+    }
+}
+
+// One question, by its first letter.
+fn ask(rt: &impl Print, question: &[u8], text: &[u8]) -> io::Result<()> {
+    rt.write_all(question)?;
+    match byte_at(question, 0) {
         b'c' => compiled(rt, rest(question, 8)),
         b't' => tidied(rt, rest(question, 7)),
-        b'n' => {
-            on(rt, text);
-            readings::number(rt, question, text)
-        }
-        b'b' => {
-            on(rt, text);
-            readings::gate(rt, question, text)
-        }
-        b'p' => ask_plain(rt, rest(question, 6), text),
-        b'u' => {
-            on(rt, text);
-            made::ask(rt, rest(question, 6), text, 1)
-        }
-        _ => {
-            on(rt, text);
-            made::ask(rt, rest(question, 4), text, 0)
-        }
+        _ => ask_on(rt, question, text),
     }
 }
 
-// The question at a place, and the place of the next one.
-fn ask_at(rt: &impl Print, input: &[u8], at: usize) -> usize
-    requires { at < length input.now }
-    ensures { (at < result) × (result ≤ length input.now) }
-{
-    let lf = intake_report::find_lf(input, at, input.len());
-    if input.len() <= lf {
-        return input.len();
+// All questions of the input, each a line with a line behind it.
+pub fn ask_all(rt: &impl Print, input: &[u8]) -> io::Result<()> {
+    let mut lines = input.split(|b| *b == LF);
+    while let (Some(question), Some(text)) = (lines.next(), lines.next()) {
+        ask(rt, question, text)?;
     }
-    let second = lf + 1;
-    let stop = intake_report::find_lf(input, second, input.len());
-    ask(rt, &input[at..lf], &input[second..stop]);
-    if input.len() <= stop {
-        return input.len();
-    }
-    stop + 1
-}
-
-pub fn ask_all(rt: &impl Print, input: &[u8]) {
-    let mut at: usize = 0;
-    while at < input.len() {
-        at = ask_at(rt, input, at);
-    }
+    Ok(())
 }

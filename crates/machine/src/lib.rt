@@ -1,8 +1,7 @@
 // The numbers of code, for the crates that write it and those that run it. specs/Kinds.antt has the definitions.
-
-// The words of the header row: how many rows and how many groups.
 #![tactic(auto)]
 
+// The words of the header row: how many rows and how many groups.
 pub const ROWS: usize = 0;
 
 pub const GROUPS: usize = 1;
@@ -21,7 +20,8 @@ pub const FOURTH: usize = 3;
 
 pub const SET: usize = 4;
 
-// The kinds of rows.
+// The kinds of rows: numbers, since they are words of code, which C and Rust callers lend as they please and whose format is the
+// outline's. An enum would have to be read from a word where each of these is matched, with an arm more for a word of no kind.
 pub const ACCEPT: u32 = 1;
 
 pub const CONSUME: u32 = 2;

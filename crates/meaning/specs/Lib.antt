@@ -10,5 +10,6 @@ pub mod Standard
 pub mod Bytes
 pub mod Limits
 pub mod Refusals
+pub mod Refusing
 pub mod Grounds
 pub mod Quoted

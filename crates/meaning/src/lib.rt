@@ -2,4 +2,4 @@
 #![tactic(auto)]
 
 pub mod limits; // limits.rt: beside specs/Limits.antt, which has the same names
-pub mod refusals; // refusals.rt: beside specs/Refusals.antt, which has the same names
+pub mod refusals; // refusals.rt: specs/Refusals.antt has the numbers

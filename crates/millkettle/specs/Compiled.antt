@@ -18,7 +18,7 @@ use Rattle.code_rows.specs.Emission.{rows_needed}
 use Rattle.compiler.specs.Compiling.{shaped, program_grounds, unwritten, answer_for, code_for, answer_by, code_left}
 use Rattle.compiler.specs.Compiling.{compilation, code_at}
 use Rattle.compiler.proofs.Laws.{is_shaped}
-use Rattle.compiler.specs.declared.Compilation.TheVariants.{Rows, Refused}
+use Rattle.compiler.specs.Compiling.{Compilation.Rows, Compilation.Refused}
 
 -- Code that says the program of a pattern of n rows and g groups, and passes.
 pub record Coded (code : List ℕ) (n g : ℕ) (r : Node) : Type 0 where

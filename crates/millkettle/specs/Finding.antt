@@ -1,8 +1,10 @@
 -- What `find` answers and leaves behind: demand 2 in one definition, by the reading, the number of rows, the exact conditions
 -- of a run and the standard's search. Definitions only.
-use Rattle.std.specs.Prelude.{◌≡◌, List, ◌++◌, ℕ, ◌+◌, ◌*◌, ◌-◌, ◌≤◌, ℤ, length, get_or}
+use Rattle.std.specs.Prelude.{◌≡◌, Result, Ok, Err, List, ◌++◌, ℕ, ◌+◌, ◌*◌, ◌-◌, ◌≤◌, ℤ, length, get_or}
 use Rattle.std.proofs.Math.Option.{Option}
 use Rattle.meaning.specs.Limits.{workspace_words}
+use Rattle.meaning.specs.Refusing.{number_of}
+use Rattle.meaning.specs.declared.refusals.Refused.{Refused as Turned}
 use Rattle.meaning.specs.Grounds.{Ground, first_of}
 use Rattle.meaning.specs.Text.{Regs}
 use Rattle.meaning.specs.Bytes.{text_of}
@@ -15,10 +17,19 @@ use Rattle.machine.specs.Replies.{reply_to, registers_from}
 use Rattle.reading_items.specs.Reading.{Reading, Reading.pattern, Reading.refused as unread, reading}
 use Rattle.code_rows.specs.Emission.{rows_needed}
 use Rattle.compiler.specs.Compiling.{plain, program_grounds, table_at, code_at}
-use Rattle.engine.specs.Answers.{reply_of}
-use Rattle.engine.specs.declared.Answer.{Answer}
-use Rattle.millkettle.specs.declared.Finding.{Finding}
-use Rattle.millkettle.specs.declared.Finding.TheVariants.{Found, Missing, Refused}
+use Rattle.engine.specs.Answers.{Answer, reply_of}
+use Rattle.engine.specs.declared.Answer.{Answer as Counted}
+
+-- What `find` answers: found or none with the count of rows executed, or the number and the place of a refusal.
+pub data Finding : Type 0 where
+  Found : ℕ → Finding
+  Missing : ℕ → Finding
+  Refused : ℕ → ℕ → Finding
+
+abbrev pub finding_view : Result Counted Turned → Finding
+finding_view (Ok (Counted.Found executed)) = Found executed
+finding_view (Ok (Counted.Missing executed)) = Missing executed
+finding_view (Err e) = Refused (number_of e.why) e.place
 
 -- A run's reply as an answer of `find`.
 abbrev pub finding_from : Reply → Finding

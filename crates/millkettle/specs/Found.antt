@@ -1,5 +1,5 @@
 -- From what `compile` and a run promise to the promise of `find`.
-use Rattle.std.specs.Prelude.{◌≡◌, refl, List, ℕ, zero, suc, ℤ, length}
+use Rattle.std.specs.Prelude.{◌≡◌, refl, Ok, List, ℕ, zero, suc, ℤ, length}
 use Rattle.std.proofs.Common.{sym, subst, ◌∙◌, arith}
 use Rattle.std.proofs.Math.Path.{ap, ap₂}
 use Rattle.std.proofs.Math.Option.{Option}
@@ -14,21 +14,26 @@ use Rattle.reading_items.specs.Reading.{Reading, Reading.pattern, Reading.refuse
 use Rattle.code_rows.specs.Emission.{rows_needed}
 use Rattle.compiler.specs.Compiling.{plain, program_grounds, unwritten, answer_for, answer_by, table_at, code_at, Compiles}
 use Rattle.millkettle.specs.Compiled.{Compiled, compiled}
-use Rattle.compiler.specs.declared.Compilation.{Compilation}
-use Rattle.compiler.specs.declared.Compilation.TheVariants.{Rows, Refused as Turned}
-use Rattle.engine.specs.Answers.{executed, Answered}
-use Rattle.engine.specs.declared.Answer.{Answer}
-use Rattle.engine.specs.declared.Answer.TheVariants.{Found as Ran, Missing as Ended, Refused as Stopped}
-use Rattle.millkettle.specs.Finding.{sought, steps_taken, find_grounds, finding_by, finding, finding_from, finding_of}
+use Rattle.compiler.specs.Compiling.{Compilation}
+use Rattle.compiler.specs.Compiling.{Compilation.Rows, Compilation.Refused as Turned}
+use Rattle.engine.specs.Answers.{executed, answer_of as answer_is, Answered}
+use Rattle.engine.specs.declared.Answer.{Answer as Counted}
+use Rattle.engine.specs.Answers.{Answer}
+use Rattle.engine.specs.Answers.{Answer.Found as Ran, Answer.Missing as Ended, Answer.Refused as Stopped}
+use Rattle.millkettle.specs.Finding.{sought, steps_taken, find_grounds, finding_by, finding, finding_from, finding_of, finding_view}
 use Rattle.millkettle.specs.Finding.{spans_by, spans_left, counted, Finds}
 use Rattle.millkettle.specs.Laws.{Way.searching, conditions, same_run, finds}
-use Rattle.millkettle.specs.declared.Finding.{Finding}
-use Rattle.millkettle.specs.declared.Finding.TheVariants.{Refused}
+use Rattle.millkettle.specs.Finding.{Finding, Finding.Refused}
 
 counted_of : (r : Answer) → counted (finding_of r) ≡ executed r
 counted_of (Ran n) = refl
 counted_of (Ended n) = refl
 counted_of (Stopped n) = refl
+
+-- What a run finds is what `find` finds.
+pub found_view : (r : Counted) → finding_view (Ok r) ≡ finding_of (answer_is (Ok r))
+found_view (Counted.Found n) = refl
+found_view (Counted.Missing n) = refl
 
 -- A pattern that is refused is refused by `find`: registers and workspace stay.
 turned : {n p : ℕ} (words : ℕ) (x : Reading) → Turned n p ≡ answer_by plain x words → (lent : Lent) (before : List ℤ)

@@ -5,41 +5,39 @@
 
 ghost use Rattle.std.specs.Prelude.{◌≡◌};
 ghost use Rattle.machine.specs.Steps.{search_row, match_row};
-ghost use Rattle.compiler.specs.Compiling.{plain, tidied, Compiles};
-ghost use Rattle.engine.specs.Answers.{Answered};
-ghost use Rattle.repetition.specs.Listings.{Lists};
+ghost use Rattle.compiler.specs.Compiling.{plain, tidied, compilation_of, Compiles};
+ghost use Rattle.engine.specs.Answers.{answer_of, Answered};
+ghost use Rattle.repetition.specs.Listings.{listing_of, Lists};
 ghost use Rattle.fields.specs.Scanning.{field_of};
 ghost use Rattle.fields.specs.Gates.{passing, passing_field};
+ghost use Rattle.fields.specs.Views.{field_view, passing_view};
 ghost use Rattle.second.specs.Replies.{Seconded};
-ghost use Rattle.millkettle.specs.Finding.{finding_of, Finds};
+ghost use Rattle.millkettle.specs.Finding.{finding_view, Finds};
 
-pub use compiler::Compilation;
+pub use compiler::Program;
 pub use engine::Answer;
-pub use fields::{Field, Gate, Passing, Reading};
-pub use repetition::Listing;
-
-// What `find` answers: found or none with the count of rows executed, or the number and the place of a refusal.
-#[derive(Drop)]
-pub enum Finding {
-    Found(u64),
-    Missing(u64),
-    Refused { number: u32, place: usize },
-}
+pub use fields::{Gate, Passing, Reading};
+pub use meaning::refusals::{Refusal, Refused};
+pub use repetition::{Listed, Unlisted};
 
 // A pattern's bytes as code. Answers how many rows and groups it has, or refuses it by the outline's number at a place: 1 to 3
 // change nothing, 4 to 16 make the whole table zero, and all leave the code alone. Words of the code behind its rows stay.
-pub fn compile(pattern: &[u8], table: &mut [u32], code: &mut [u32]) -> Compilation
+pub fn compile(pattern: &[u8], table: &mut [u32], code: &mut [u32]) -> Result<Program, Refused>
     ensures { Compiles plain pattern.now table.old table.new code.old
-        code.new result }
+        code.new (compilation_of result) }
 {
     compiler::compile(pattern, table, code)
 }
 
 // As `compile`, for the tidied pattern: refusals are those of the plain one, but 16 is by the tidied one's rows. The table
 // then holds the tidied pattern.
-pub fn compile_tidied(pattern: &[u8], table: &mut [u32], code: &mut [u32]) -> Compilation
+pub fn compile_tidied(
+    pattern: &[u8],
+    table: &mut [u32],
+    code: &mut [u32],
+) -> Result<Program, Refused>
     ensures { Compiles tidied pattern.now table.old table.new code.old
-        code.new result }
+        code.new (compilation_of result) }
 {
     compiler::compile_tidied(pattern, table, code)
 }
@@ -53,9 +51,9 @@ pub fn match_at(
     start: usize,
     registers: &mut [i32],
     workspace: &mut [u32],
-) -> Answer
+) -> Result<Answer, Refusal>
     ensures { Answered code.now text.now start match_row registers.old
-        workspace.old result registers.new workspace.new }
+        workspace.old (answer_of result) registers.new workspace.new }
 {
     engine::match_at(code, text, start, registers, workspace)
 }
@@ -67,9 +65,9 @@ pub fn search(
     start: usize,
     registers: &mut [i32],
     workspace: &mut [u32],
-) -> Answer
+) -> Result<Answer, Refusal>
     ensures { Answered code.now text.now start search_row registers.old
-        workspace.old result registers.new workspace.new }
+        workspace.old (answer_of result) registers.new workspace.new }
 {
     engine::search(code, text, start, registers, workspace)
 }
@@ -83,9 +81,9 @@ pub fn search_all(
     start: usize,
     list: &mut [i32],
     workspace: &mut [u32],
-) -> Listing
+) -> Result<Listed, Unlisted>
     ensures { Lists code.now text.now start list.old list.new
-        workspace.old workspace.new result }
+        workspace.old workspace.new (listing_of result) }
 {
     repetition::search_all(code, text, start, list, workspace)
 }
@@ -98,9 +96,9 @@ pub fn second_match(
     start: usize,
     registers: &mut [i32],
     workspace: &mut [u32],
-) -> Answer
+) -> Result<Answer, Refusal>
     ensures { Seconded code.now text.now start match_row registers.old
-        workspace.old result registers.new workspace.new }
+        workspace.old (answer_of result) registers.new workspace.new }
 {
     second::second_match(code, text, start, registers, workspace)
 }
@@ -112,22 +110,11 @@ pub fn second_search(
     start: usize,
     registers: &mut [i32],
     workspace: &mut [u32],
-) -> Answer
+) -> Result<Answer, Refusal>
     ensures { Seconded code.now text.now start search_row registers.old
-        workspace.old result registers.new workspace.new }
+        workspace.old (answer_of result) registers.new workspace.new }
 {
     second::second_search(code, text, start, registers, workspace)
-}
-
-// A run's answer as an answer of `find`: a refused run is at place 0.
-fn as_finding(answer: Answer) -> Finding
-    ensures { result ≡ finding_of answer }
-{
-    match answer {
-        Answer::Found(count) => Finding::Found(count),
-        Answer::Missing(count) => Finding::Missing(count),
-        Answer::Refused(number) => Finding::Refused { number, place: 0 },
-    }
 }
 
 // A pattern searched in a text from a start, in one call. Answers the refusal of the pattern or of the run, or found with the
@@ -141,38 +128,34 @@ pub fn find(
     code: &mut [u32],
     registers: &mut [i32],
     workspace: &mut [u32],
-) -> Finding
+) -> Result<Answer, Refused>
     ensures { Finds pattern.now text.now start table.old table.new
         code.old code.new registers.old registers.new workspace.old
-        workspace.new result }
+        workspace.new (finding_view result) }
 {
-    match compiler::compile(pattern, table, code) {
-        Compilation::Refused { number, place } => Finding::Refused { number, place },
-        Compilation::Rows { rows: _, groups: _ } => {
-            as_finding(engine::search(code, text, start, registers, workspace))
-        }
-    }
+    compiler::compile(pattern, table, code)?;
+    Ok(engine::search(code, text, start, registers, workspace)?)
 }
 
 // A captured span, two registers as they stand, read as a number: an optional minus, one or more digits, optionally a point and
 // one or more digits, 15 digits at most in all. Any other span is refused as 28, one that has no bytes in the text included.
-pub fn read_field(text: &[u8], start: i32, end: i32) -> Field
-    ensures { result ≡ field_of text.now start end }
+pub fn read_field(text: &[u8], start: i32, end: i32) -> Result<Reading, Refused>
+    ensures { field_view result ≡ field_of text.now start end }
 {
     fields::read_field(text, start, end)
 }
 
 // Whether a gate passes what was read, ends included. A gate whose limit is no number is refused as 29, and one whose lower
 // limit is above its upper passes nothing.
-pub fn pass(gate: Gate, reading: Reading) -> Passing
-    ensures { result ≡ passing gate reading }
+pub fn pass(gate: Gate, reading: Reading) -> Result<Passing, Refused>
+    ensures { passing_view result ≡ passing gate reading }
 {
     fields::pass(gate, reading)
 }
 
 // Whether a gate passes a captured span. A span that is no number is refused first.
-pub fn pass_field(gate: Gate, text: &[u8], start: i32, end: i32) -> Passing
-    ensures { result ≡ passing_field gate text.now start end }
+pub fn pass_field(gate: Gate, text: &[u8], start: i32, end: i32) -> Result<Passing, Refused>
+    ensures { passing_view result ≡ passing_field gate text.now start end }
 {
     fields::pass_field(gate, text, start, end)
 }

@@ -15,9 +15,11 @@ use Rattle.table.specs.Table.{record_words, record_count}
 use Rattle.reading_items.specs.Reading.{Part.turned, alternatives_at, Reading, Reading.pattern, Reading.refused, whole}
 use Rattle.reading_items.specs.Reading.{first_high, reading, table_by, table_after}
 use Rattle.reading.specs.Answers.{Reads, Checked, answer_of}
+use Rattle.std.specs.Prelude.{Some, None}
+use Rattle.reading_items.specs.Highs.{high_in, high_found}
 use Rattle.reading_items.specs.Meets.{Fine}
-use Rattle.reading.specs.declared.Reading as answers
-use Rattle.reading.specs.declared.Reading.TheVariants.{Pattern, Refused as Turned}
+use Rattle.reading.specs.Answers as answers
+use Rattle.reading.specs.Answers.{Reading.Pattern, Reading.Turned}
 use Rattle.reading.proofs.Turns.{Got-part, alternatives_read, kept_proper, part_top}
 
 -- A reading that is known.
@@ -41,18 +43,20 @@ module _ {s table : List ℕ} where
         (table_words (length s)) k,
   )) refl refl
 
-  pub too_high : {high : ℕ} → length s ≤ pattern_limit → table_words (length s) ≤ length table → high ≡ first_high s
-      → high < length s
+  pub too_high : {high : ℕ} → length s ≤ pattern_limit → table_words (length s) ≤ length table → Some high ≡ high_in s
       → Reads s table table (Turned 3 high)
   unfolding reading
-  too_high h k e l =
-      rw e (reads (refused No.high_byte (first_high s))
+  too_high h k e =
+      let (l, is) = rw (← e) at (high_found s) in
+      rw (← is) (reads (refused No.high_byte (first_high s))
       (rw (
         le-ltb pattern_limit (length s) h,
         le-ltb (length table) (table_words (length s)) k,
-        lt-ltb (first_high s) (length s)
-            (rw e at l),
+        lt-ltb (first_high s) (length s) (omega (arith, l, is)),
       )) refl refl)
+
+  pub checked : length s ≤ pattern_limit → table_words (length s) ≤ length table → None ≡ high_in s → Checked s table
+  checked h k e = record { short = h; words = k; plain = omega (arith, rw (← e) at (high_found s)) }
 
 -- A pattern that passed them.
 pub fine_start : {s table : List ℕ} → Checked s table → ((i : ℕ) → Fits w8 (get_or s i 0)) → Fine s table 0 0 0

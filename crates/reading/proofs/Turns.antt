@@ -27,14 +27,11 @@ use Rattle.reading_items.specs.Read.{atom_laws}
 use Rattle.reading_items.specs.Reading.{Part, Part.part, Part.turned, sequence_go, alternatives_go, item_at}
 use Rattle.reading_items.specs.Reading.{sequence_at}
 use Rattle.reading_items.specs.Reading.{alternatives_at}
-use Rattle.reading_items.specs.Meets.{Fine, Meets, MeetsBy, Opens, OpensBy}
+use Rattle.reading_items.specs.Meets.{Fine, Meets, MeetsBy}
 use Rattle.reading_items.specs.Meets.{series_kind}
 use Rattle.reading_items.specs.Meets.{Gathered, SomeGathered, Joins, Splices}
-use Rattle.reading_items.specs.declared.parts.Got.{Got}
-use Rattle.reading_items.specs.declared.parts.Got.TheVariants.{Part as GotPart, Refused as GotRefused}
+use Rattle.reading_items.specs.Answers.{Got, Got.GotPart, Got.GotRefused}
 use Rattle.reading_items.specs.declared.series.Spliced.{Spliced}
-use Rattle.reading_items.specs.declared.openings.Opening.{Opening}
-use Rattle.reading_items.specs.declared.openings.Opening.TheVariants.{Inside, Refused as NotOpened}
 
 -- ---- a call's answer: a part, or a refusal
 pub record Got-part (x : Part) (a t g : ℕ) (before table' : List ℕ) : Type 0 where
@@ -277,13 +274,3 @@ not_ended s at e = byte_within s at (λ n. true≢false (ap ends_sequence (sym n
 
 pub at_bar : (s : List ℕ) (at : ℕ) → byte_at s at ≡ bar → at < length s
 at_bar s at e = byte_within s at (λ n. omega (arith, e, n))
-
--- ---- what a `(` opens
-pub opens_no : {s : List ℕ} {at depth g n p : ℕ} {answer : Opening} → Opens s at depth g answer → answer ≡ NotOpened n p
-    → OpensBy s at depth g (NotOpened n p)
-opens_no {s} {at} {depth} {g} o e = subst (OpensBy s at depth g) e o.by
-
-pub opens_inside : {s : List ℕ} {at depth g from n i : ℕ} {answer : Opening} → Opens s at depth g answer
-    → answer ≡ Inside from n i
-    → OpensBy s at depth g (Inside from n i)
-opens_inside {s} {at} {depth} {g} o e = subst (OpensBy s at depth g) e o.by

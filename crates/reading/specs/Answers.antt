@@ -1,11 +1,21 @@
 -- What `read` answers, by the outline's number and values for each case. Definitions only.
-use Rattle.std.specs.Prelude.{◌≡◌, List, ℕ, ◌≤◌, length}
+use Rattle.std.specs.Prelude.{◌≡◌, List, ℕ, ◌≤◌, length, Result, Ok, Err}
 use Rattle.meaning.specs.Limits.{pattern_limit, table_words}
 use Rattle.table.specs.Table.{record_count}
 use Rattle.reading_items.specs.Reading.{reading, table_after, first_high}
 use Rattle.reading_items.specs.Reading as given
-use Rattle.reading.specs.declared.Reading.{Reading}
-use Rattle.reading.specs.declared.Reading.TheVariants.{Pattern, Refused as Turned}
+use Rattle.meaning.specs.Refusing.{number_of}
+use Rattle.meaning.specs.declared.refusals.Refused.{Refused}
+use Rattle.reading.specs.declared.Pattern.{Pattern as Read}
+
+-- A pattern by its records in the table and its groups, or a refusal's number and place.
+pub data Reading : Type 0 where
+  Pattern : ℕ → ℕ → Reading
+  Turned : ℕ → ℕ → Reading
+
+abbrev pub reading_of : Result Read Refused → Reading
+reading_of (Ok p) = Pattern p.records p.groups
+reading_of (Err e) = Turned (number_of e.why) e.place
 
 -- The outline's number and values for each case of what `read` answers; the pattern itself is in the table.
 abbrev pub answer_of : given.Reading → Reading

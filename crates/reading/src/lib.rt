@@ -8,181 +8,136 @@ ghost use Rattle.meaning.specs.Limits.{depth_limit};
 ghost use Rattle.table.specs.Table.{record_words};
 ghost use Rattle.reading_atoms.specs.Chars.{byte_at, ends_sequence};
 ghost use Rattle.reading_items.specs.Reading.{item_at, sequence_at, alternatives_at};
+ghost use Rattle.reading_items.specs.Answers.{got_of};
 ghost use Rattle.reading_items.specs.Meets.{Fine, Leaves};
-ghost use Rattle.reading.specs.Answers.{Reads, Checked};
+ghost use Rattle.reading.specs.Answers.{Reads, Checked, reading_of};
 
 use meaning::limits::PATTERN_LIMIT;
-use meaning::refusals::{HIGH_BYTE, LONG_PATTERN, SMALL_TABLE, UNMATCHED};
+use meaning::refusals::{Refusal, Refused};
 use reading_atoms::byte_at;
 use reading_items::{
-    Got, Opening, clear, closed, ends_sequence, first_high, joined, opening_at, single, splice,
+    Reached, clear, closed, ends_sequence, first_high, joined, opening_at, single, splice,
 };
 use table::{ALTERNATION, RECORD_WORDS, SEQUENCE};
 
-// What a pattern's reading answers.
-#[derive(Drop)]
-pub enum Reading {
-    Pattern { records: usize, groups: u32 },
-    Refused { number: u32, place: usize },
+// A pattern that was read: its records in the table, and its groups.
+#[derive(Clone, Copy, Debug, PartialEq, Eq)]
+pub struct Pattern {
+    pub records: usize,
+    pub groups: u32,
 }
 
 // An atom with its quantifier, or an assertion. What a `(` opens holds alternatives again, one level deeper.
 #[cycle(alternatives_atom_sequence)]
-fn atom(s: &[u8], at: usize, depth: u32, groups: u32, table: &mut [u32], top: usize) -> Got
-    requires { Fine s.now table.old at groups top × (depth ≤ depth_limit) × (ends_sequence (byte_at s.now at) ≡ false) }
-    ensures { Leaves (item_at (depth_limit - depth) s.now at groups) result top table.old
+fn atom(s: &[u8], table: &mut [u32], from: Reached, depth: u32) -> Result<Reached, Refused>
+    requires { Fine s.now table.old from.at from.groups from.top × (depth ≤ depth_limit)
+        × (ends_sequence (byte_at s.now from.at) ≡ false) }
+    ensures { Leaves (item_at (depth_limit - depth) s.now from.at from.groups) (got_of result) from.top table.old
         table.new }
 {
-    if byte_at(s, at) != b'(' as u32 {
-        return single(s, at, groups, table, top);
+    if byte_at(s, from.at) != Some(b'(') {
+        return single(s, table, from);
     }
-    match opening_at(s, at, depth, groups) {
-        Opening::Refused { number, place } => Got::Refused { number, place },
-        Opening::Inside {
-            from,
-            group,
-            groups: inside,
-        } => {
-            match alternatives(s, from, depth + 1, inside, table, top) {
-                Got::Refused { number, place } => Got::Refused { number, place },
-                Got::Part {
-                    at: end,
-                    top: next,
-                    groups: seen,
-                } => closed(s, end, group, seen, table, next),
-            }
-        }
-    }
+    let opening = opening_at(s, from.at, depth, from.groups)?;
+    let opened = Reached {
+        at: opening.from,
+        groups: opening.groups,
+        ..from
+    };
+    let inside = alternatives(s, table, opened, depth + 1)?;
+    closed(s, table, inside, opening.group)
 }
 
 // Items up to a `|`, a `)` or the end. A sequence that is an item gives its own items.
 #[cycle(alternatives_atom_sequence)]
-fn sequence(s: &[u8], at: usize, depth: u32, groups: u32, table: &mut [u32], top: usize) -> Got
-    requires { Fine s.now table.old at groups top × (depth ≤ depth_limit) }
-    ensures { Leaves (sequence_at (depth_limit - depth) s.now at groups) result top table.old
+fn sequence(s: &[u8], table: &mut [u32], from: Reached, depth: u32) -> Result<Reached, Refused>
+    requires { Fine s.now table.old from.at from.groups from.top × (depth ≤ depth_limit) }
+    ensures { Leaves (sequence_at (depth_limit - depth) s.now from.at from.groups) (got_of result) from.top table.old
         table.new }
 {
-    let mut here = at;
-    let mut seen = groups;
-    let mut next = top;
+    let mut read = from;
     let mut count: u32 = 0;
-    while !ends_sequence(s, here) {
-        match atom(s, here, depth, seen, table, next) {
-            Got::Refused { number, place } => {
-                return Got::Refused { number, place };
-            }
-            Got::Part {
-                at: a,
-                top: t,
-                groups: g,
-            } => {
-                let spliced = splice(table, t, SEQUENCE);
-                here = a;
-                seen = g;
-                next = spliced.top;
-                count += spliced.items;
-            }
-        }
+    while !ends_sequence(s, read.at) {
+        read = atom(s, table, read, depth)?;
+        let spliced = splice(table, read.top, SEQUENCE);
+        read.top = spliced.top;
+        count += spliced.items;
     }
-    let end = joined(table, next, SEQUENCE, count);
-    Got::Part {
-        at: here,
-        top: end,
-        groups: seen,
-    }
+    read.top = joined(table, read.top, SEQUENCE, count);
+    Ok(read)
 }
 
 // Sequences with `|` between them. An alternation that is an alternative gives its own alternatives.
 #[cycle(alternatives_atom_sequence)]
-fn alternatives(s: &[u8], at: usize, depth: u32, groups: u32, table: &mut [u32], top: usize) -> Got
-    requires { Fine s.now table.old at groups top × (depth ≤ depth_limit) }
-    ensures { Leaves (alternatives_at (depth_limit - depth) s.now at groups) result top table.old
+fn alternatives(s: &[u8], table: &mut [u32], from: Reached, depth: u32) -> Result<Reached, Refused>
+    requires { Fine s.now table.old from.at from.groups from.top × (depth ≤ depth_limit) }
+    ensures { Leaves (alternatives_at (depth_limit - depth) s.now from.at from.groups) (got_of result) from.top table.old
         table.new }
 {
-    let mut here = at;
-    let mut seen = groups;
-    let mut next = top;
+    let mut read = from;
     let mut count: u32 = 0;
     loop {
-        match sequence(s, here, depth, seen, table, next) {
-            Got::Refused { number, place } => {
-                return Got::Refused { number, place };
-            }
-            Got::Part {
-                at: a,
-                top: t,
-                groups: g,
-            } => {
-                let spliced = splice(table, t, ALTERNATION);
-                here = a;
-                seen = g;
-                next = spliced.top;
-                count += spliced.items;
-            }
-        }
-        if byte_at(s, here) != b'|' as u32 {
+        read = sequence(s, table, read, depth)?;
+        let spliced = splice(table, read.top, ALTERNATION);
+        read.top = spliced.top;
+        count += spliced.items;
+        if byte_at(s, read.at) != Some(b'|') {
             break;
         }
-        here += 1;
+        read.at += 1;
     }
-    let end = joined(table, next, ALTERNATION, count);
-    Got::Part {
-        at: here,
-        top: end,
-        groups: seen,
-    }
+    read.top = joined(table, read.top, ALTERNATION, count);
+    Ok(read)
 }
 
 // A pattern that passed checks 1 to 3: a refusal leaves a table of zeros, and a pattern its records with zeros behind them.
-fn whole(pattern: &[u8], table: &mut [u32]) -> Reading
+fn whole(pattern: &[u8], table: &mut [u32]) -> Result<Pattern, Refused>
     requires { Checked pattern.now table.old }
-    ensures { Reads pattern.now table.old table.new result }
+    ensures { Reads pattern.now table.old table.new (reading_of result) }
 {
-    match alternatives(pattern, 0, 0, 0, table, 0) {
-        Got::Refused { number, place } => {
+    let start = Reached {
+        at: 0,
+        top: 0,
+        groups: 0,
+    };
+    match alternatives(pattern, table, start, 0) {
+        Err(refused) => {
             clear(table, 0);
-            Reading::Refused { number, place }
+            Err(refused)
         }
-        Got::Part { at, top, groups } => {
-            if at < pattern.len() {
+        Ok(reached) => {
+            if reached.at < pattern.len() {
                 clear(table, 0);
-                return Reading::Refused {
-                    number: UNMATCHED,
-                    place: at,
-                };
+                return Err(Refused {
+                    why: Refusal::Unmatched,
+                    place: reached.at,
+                });
             }
-            clear(table, RECORD_WORDS * top);
-            Reading::Pattern {
-                records: top,
-                groups,
-            }
+            clear(table, RECORD_WORDS * reached.top);
+            Ok(Pattern {
+                records: reached.top,
+                groups: reached.groups,
+            })
         }
     }
 }
 
 // Any pattern and any table. Checks 1 to 3 come first, in order, and change nothing.
-pub fn read(pattern: &[u8], table: &mut [u32]) -> Reading
-    ensures { Reads pattern.now table.old table.new result }
+pub fn read(pattern: &[u8], table: &mut [u32]) -> Result<Pattern, Refused>
+    ensures { Reads pattern.now table.old table.new (reading_of result) }
 {
     let length = pattern.len();
-    if PATTERN_LIMIT < length {
-        return Reading::Refused {
-            number: LONG_PATTERN,
-            place: 0,
-        };
+    if length > PATTERN_LIMIT {
+        return Err(Refusal::LongPattern.into());
     }
     if table.len() < 32 * (length + 1) {
-        return Reading::Refused {
-            number: SMALL_TABLE,
-            place: 0,
-        };
+        return Err(Refusal::SmallTable.into());
     }
-    let high = first_high(pattern);
-    if high < length {
-        return Reading::Refused {
-            number: HIGH_BYTE,
-            place: high,
-        };
+    if let Some(place) = first_high(pattern) {
+        return Err(Refused {
+            why: Refusal::HighByte,
+            place,
+        });
     }
     whole(pattern, table)
 }

@@ -1,11 +1,13 @@
 -- What an escape, a class and a quantifier answer, of any pattern: it lies within the pattern and within the limits.
-use Rattle.std.specs.Prelude.{◌≡◌, Bool, true, false, List, ℕ, ◌+◌, ◌≤◌, ◌<◌, length}
+use Rattle.std.specs.Prelude.{◌≡◌, refl, Bool, Ok, Err, List, ℕ, ◌+◌, ◌≤◌, ◌<◌, length}
 use Rattle.std.proofs.Math.Option.{Option}
 use Rattle.std.proofs.Common.{arith}
 use Rattle.sets.specs.Sets.{Formed}
 use Rattle.meaning.specs.Bytes.{Bytes}
 use Rattle.meaning.specs.Node.{Within}
 use Rattle.reading_atoms.specs.Escapes.{Escape.byte, Escape.named, Escape.assertion, escape_at}
+use Rattle.meaning.specs.Refusing.{number_of}
+use Rattle.meaning.specs.declared.refusals.Refused.{Refused}
 use Rattle.reading_atoms.specs.Classes.{Class.holds, Class.broken, class_at}
 use Rattle.reading_atoms.specs.Braces.{Quantifier.repeated, quantifier_at}
 use Rattle.reading_atoms.specs.Answers.{class_of}
@@ -28,11 +30,11 @@ module _ (inClass : Bool) (s : List ℕ) (at : ℕ) (fine : Bytes s) where
   escape_assertion e = (rw e at (escape_fine inClass s at fine)).by
 
 -- What a class's reader answers, closed and not.
-pub class_closed : (r : Class) → r.closed ≡ true → class_of r ≡ holds r.set r.end
-class_closed r e = rw e
+pub class_closed : (r : Class) → class_of (Ok r) ≡ holds r.set r.end
+class_closed r = refl
 
-pub class_refused : (r : Class) → r.closed ≡ false → class_of r ≡ broken r.number r.place
-class_refused r e = rw e
+pub class_refused : (e : Refused) → class_of (Err e) ≡ broken (number_of e.why) e.place
+class_refused e = refl
 
 -- A class's set, with the place behind it.
 pub class_holds : (s : List ℕ) (at : ℕ) → Bytes s → {set : List ℕ} {end : ℕ} → class_at s at ≡ holds set end

@@ -1,11 +1,14 @@
 -- The byte at a place, and the tests that the definitions put to it.
-use Rattle.std.specs.Prelude.{◌≡◌, refl, ◌⊎◌, Bool, true, false, cond, ◌||◌, ◌&&◌, List, [], ◌∷◌, ℕ, zero, suc, ◌≤◌, ◌<◌, eqb, leb, ltb, length, get_or}
-use Rattle.std.proofs.Common.{sym, ap, ◌∙◌, inl, inr, ⊎_elim, true≢false, not-suc-le-zero, le_of_suc-le-suc, arith, Fits, leb-true, ltb-true, ltb-false}
+use Rattle.std.specs.Prelude.{◌≡◌, refl, ◌⊎◌, Bool, true, false, cond, ◌||◌, ◌&&◌, List, [], ◌∷◌, ℕ, zero, suc, ◌≤◌, ◌<◌, eqb, leb, ltb, length, get_or, Option, Some, None}
+use Rattle.std.proofs.Common.{sym, ap, ◌∙◌, inl, inr, ⊎_elim, true≢false, not-suc-le-zero, le_of_suc-le-suc, arith, Fits, eqb-true, leb-true, ltb-true, ltb-false}
 use Rattle.std.proofs.Math.Bool.{or_assoc}
 use Rattle.std.proofs.Math.ListN.{get_or-eq_default}
 use Rattle.std.specs.Int.{w8}
 use Rattle.sets.specs.Sets.{between, is_digit, is_word}
 use Rattle.meaning.specs.Bytes.{Bytes}
+use Rattle.std.proofs.lemmas.Bool.{eqb-false}
+use Rattle.std.specs.Option.{option_eq}
+use Rattle.reading_atoms.specs.Answers.{byte_of}
 use Rattle.reading_atoms.specs.Chars.{no_byte, byte_at, is_upper, is_lower, is_letter, is_hex, hex_value}
 
 -- What holds of both sides of a choice holds of the choice; each side may use which way the test went.
@@ -84,3 +87,12 @@ hex_small b e = by_cond (λ n. n ≤ 15) (is_digit b) (λ d. omega (arith, digit
     (either (is_digit b) (between 0x41 0x46 b) l))
     (λ x. omega (arith, between_true 0x61 0x66 b x))
     (either (is_digit b || between 0x41 0x46 b) (between 0x61 0x66 b) e))
+
+-- A byte that is the one looked for, and one that is not, or none.
+pub byte_is : (o : Option ℕ) (b : ℕ) → option_eq eqb o (Some b) ≡ true → byte_of o ≡ b
+byte_is None b e = absurd (true≢false (sym e))
+byte_is (Some x) b e = eqb-true x b e
+
+pub byte_other : (o : Option ℕ) (b : ℕ) → option_eq eqb o (Some b) ≡ false → b < no_byte → byte_of o ≡ b → ⊥
+byte_other None b e h f = omega arith
+byte_other (Some x) b e h f = eqb-false x b e f

@@ -1,4 +1,6 @@
 // The byte sets of atoms, by the names that the readers reach them by.
+#![tactic(auto, using(sets::specs::Laws::words_of))]
+
 ghost use Rattle.std.specs.Prelude.{◌≡◌, ◌<◌};
 ghost use Rattle.sets.specs.Sets.{set_of, is_dot, in_escape};
 ghost use Rattle.reading_atoms.specs.Classes.{takes, class_set};

@@ -7,7 +7,7 @@ mod chars;
 mod classes;
 mod escapes;
 
-pub use braces::{Braces, Quantifier, braces_at, quantifier_at};
+pub use braces::{Braces, Repeat, braces_at, quantifier_at};
 pub use byte_sets::{class_set, dot_set, literal_set, named_set};
 pub use chars::byte_at;
 pub use classes::{Class, class_at};

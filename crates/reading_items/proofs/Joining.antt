@@ -19,8 +19,7 @@ use Rattle.reading_atoms.specs.Places.{byte_within}
 use Rattle.reading_items.specs.Meets.{Behind, Quantifies, grouped, Groups, Closes, series_kind}
 use Rattle.reading_items.specs.Meets.{Gathered}
 use Rattle.reading_items.specs.Meets.{SomeGathered, Joins, Splices}
-use Rattle.reading_items.specs.declared.parts.Got.{Got}
-use Rattle.reading_items.specs.declared.parts.Got.TheVariants.{Refused as GotRefused}
+use Rattle.reading_items.specs.Answers.{Got, Got.GotRefused}
 use Rattle.reading_items.proofs.Putting.{made, putting}
 
 -- A pattern of the kind of a series holds the series's parts, and any other is not of that kind.

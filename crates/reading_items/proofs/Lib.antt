@@ -1,6 +1,5 @@
 -- What the proofs of the functions use.
 mod Opens
-mod Clearing
 mod Putting
 mod Joining
 pub mod Singles

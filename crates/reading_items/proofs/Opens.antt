@@ -17,7 +17,7 @@ use Rattle.reading_items.specs.Reading.{Opening.neither}
 use Rattle.reading_items.specs.Reading.{is_look, opening_at}
 use Rattle.reading_items.specs.Reading.{and_then, too_deep, opened, closed, item_by, item_at, alternatives_at}
 use Rattle.reading_items.specs.Meets.{OpensAt, Opens, grouped}
-use Rattle.reading_items.specs.declared.openings.Opening.TheVariants.{Inside, Refused as NotOpened}
+use Rattle.reading_items.specs.Answers.{Opening.Inside, Opening.NotOpened}
 
 -- A byte that makes `(?` a form that is left out is no `:`.
 look_other : (b : ℕ) → is_look b ≡ true → eqb b colon ≡ false

@@ -1,5 +1,5 @@
 -- The records that the readers put. Assumes nothing.
-use mathlib.Core.Path.{◌≡◌, refl, sym, ap, ◌∙◌}
+use mathlib.Core.Path.{◌≡◌, refl, sym}
 use mathlib.Core.Bool.{Bool, true, false, cond}
 use mathlib.Core.Option.{Option, none, some}
 use mathlib.Core.List.{List, [], ◌∷◌, ◌++◌, append-nil}
@@ -16,16 +16,18 @@ use Rattle.table.specs.Table.{assertion_kind, set_kind, group_kind, quantifier_k
 use Rattle.table.specs.Table.{records}
 use Rattle.table.specs.Laws.{inner, kind_of, operand_of, last_of}
 use Rattle.table.specs.Stands.{Stands, Ends, SomePart, Series, Made, Putting, Puts}
-use Rattle.reading_atoms.specs.Answers.{QuantifierIs, quantifier_of}
+use Rattle.std.specs.Prelude.{None, Some, Ok, Err}
+use Rattle.meaning.specs.Refusing.{number_of}
+use Rattle.meaning.specs.declared.refusals.Refused.{Refused}
+use Rattle.reading_atoms.specs.Answers.{QuantifierIs}
 use Rattle.reading_atoms.specs.Braces as braces
 use Rattle.reading_atoms.specs.Braces.{quantifier_at}
 use Rattle.reading_atoms.specs.Laws.{quantifier_repeated}
-use Rattle.reading_atoms.specs.declared.braces.Quantifier.{Quantifier}
-use Rattle.reading_atoms.specs.declared.braces.Quantifier.TheVariants.{Once, Repeated, Refused as Miscounted}
+use Rattle.reading_atoms.specs.declared.braces.Repeat.{Repeat}
 use Rattle.reading_items.specs.Reading.{Part.part}
 use Rattle.reading_items.specs.Numbers.{miscounted_late}
 use Rattle.reading_items.specs.Meets.{Behind, Room, Meets, Quantifies, grouped, Groups}
-use Rattle.reading_items.specs.declared.parts.Got.TheVariants.{Part as GotPart, Refused as GotRefused}
+use Rattle.reading_items.specs.Answers.{Got.GotPart, Got.GotRefused}
 
 -- A record that closes the parts of a pattern is that pattern's own.
 pub made : {table : List ℕ} {top items : ℕ} {before : List ℕ} (r : Node) → Series table top items before (inner r) → Proper r
@@ -125,51 +127,50 @@ maximum_is min max h = go (eqb max no_maximum) refl
     go true e = sym (eqb-true max no_maximum e)
     go false e = omega arith
 
-module _ (s : List ℕ) (at : ℕ) {q : Quantifier} (is : QuantifierIs q (quantifier_at s at)) where
-  pub once_quantifies : {g top : ℕ} {table : List ℕ} → q ≡ Once → Quantifies s at g top table table (GotPart at top g)
-  once_quantifies {top = top} e = record {
-    by = λ before r ends. rw (sym is.same, e) (record { by = (top, refl, ends.stands) });
+module _ (s : List ℕ) (at : ℕ) where
+  pub once_quantifies : {g top : ℕ} {table : List ℕ} → QuantifierIs (Ok None) (quantifier_at s at)
+      → Quantifies s at g top table table (GotPart at top g)
+  once_quantifies {top = top} is = record {
+    by = λ before r ends. rw (sym is.same) (record { by = (top, refl, ends.stands) });
   }
 
-  pub refused_quantifies : {g top number place : ℕ} {table : List ℕ} → q ≡ Miscounted number place
-      → Quantifies s at g top table table (GotRefused number place)
-  refused_quantifies e = record {
+  pub refused_quantifies : {g top : ℕ} {table : List ℕ} {e : Refused} → QuantifierIs (Err e) (quantifier_at s at)
+      → Quantifies s at g top table table (GotRefused (number_of e.why) e.place)
+  refused_quantifies {e = e} is = record {
     by = λ before r ends.
-        let x = sym is.same ∙ ap quantifier_of e in rw x (record { by = (refl, miscounted_late s at x) });
+        let x : quantifier_at s at ≡ braces.Quantifier.miscounted (number_of e.why) e.place = sym is.same in
+        rw x (record { by = (refl, miscounted_late s at x) });
   }
 
-  module _ {min max end : ℕ} {lazy : Bool} (e : q ≡ Repeated min max lazy end) where
-    is_repeated : quantifier_at s at ≡ braces.Quantifier.repeated min (extra_of min max) lazy end
-    is_repeated = sym is.same ∙ ap quantifier_of e
+  module _ {q : Repeat} (is : QuantifierIs (Ok (Some q)) (quantifier_at s at)) where
+    is_repeated : quantifier_at s at ≡ braces.Quantifier.repeated q.min (extra_of q.min q.max) q.lazy q.end
+    is_repeated = sym is.same
 
-    ordered : min ≤ max
-    ordered = rw e at is.ordered
-
-    within : Within min (extra_of min max)
+    within : Within q.min (extra_of q.min q.max)
     within = (quantifier_repeated s at is_repeated).2
 
     pub many_putting : {table : List ℕ} {top : ℕ} → Room table top → SomePart table top
-        → Putting table top quantifier_kind 0 1 (min ∷ max ∷ bool_byte lazy ∷ replicate 5 0)
+        → Putting table top quantifier_kind 0 1 (q.min ∷ q.max ∷ bool_byte q.lazy ∷ replicate 5 0)
     unfolding inner
     many_putting room p =
-        rw (maximum_is min max ordered, ← bool_bit lazy) at
-        (putting {before = p.before} (many min (extra_of min max) lazy p.part) (series_one p.ends)
+        rw (maximum_is q.min q.max is.ordered, ← bool_bit q.lazy) at
+        (putting {before = p.before} (many q.min (extra_of q.min q.max) q.lazy p.part) (series_one p.ends)
         (within, p.ends.proper) refl room)
 
     pub many_quantifies : {g top : ℕ} {table table' : List ℕ} → Room table top
-        → Puts table table' top quantifier_kind 0 1 (min ∷ max ∷ bool_byte lazy ∷ replicate 5 0)
-        → Quantifies s at g top table table' (GotPart end (top + 1) g)
+        → Puts table table' top quantifier_kind 0 1 (q.min ∷ q.max ∷ bool_byte q.lazy ∷ replicate 5 0)
+        → Quantifies s at g top table table' (GotPart q.end (top + 1) g)
     unfolding inner
     many_quantifies {top = top} {table = table} {table' = table'} room puts = record {
       by = λ before r ends.
-          let p : Puts table table' top quantifier_kind 0 1 (last_of (many min (extra_of min max) lazy r))
-          = rw (maximum_is min max ordered, ← bool_bit lazy) puts in
+          let p : Puts table table' top quantifier_kind 0 1 (last_of (many q.min (extra_of q.min q.max) q.lazy r))
+          = rw (maximum_is q.min q.max is.ordered, ← bool_bit q.lazy) puts in
           rw is_repeated (record {
             by = (
               top + 1,
               refl,
-              p.by before (many min (extra_of min max) lazy r)
-                  (made (many min (extra_of min max) lazy r) (series_one ends) (within, ends.proper)) refl,
+              p.by before (many q.min (extra_of q.min q.max) q.lazy r)
+                  (made (many q.min (extra_of q.min q.max) q.lazy r) (series_one ends) (within, ends.proper)) refl,
             );
           });
     }

@@ -11,16 +11,13 @@ use Rattle.meaning.specs.Node.{Node.assert}
 use Rattle.reading_atoms.specs.Chars.{byte_at, open_paren, open_bracket, close_bracket, open_brace, close_brace}
 use Rattle.reading_atoms.specs.Chars.{backslash, dot, caret, dollar, star, plus, question, is_quantifier}
 use Rattle.reading_atoms.specs.Places.{byte_there}
-use Rattle.reading_atoms.specs.Classes.{Class.holds, Class.broken, class_at}
+use Rattle.reading_atoms.specs.Classes.{class_at}
 use Rattle.reading_atoms.specs.Escapes.{escape_at}
-use Rattle.reading_atoms.specs.Answers.{class_of}
-use Rattle.reading_atoms.specs.declared.classes.Class.{Class}
 use Rattle.reading_items.specs.Reading.{Part, Part.part, Part.turned, Opening, set_item, class_part, escape_item, literal_set}
 use Rattle.reading_items.specs.Reading.{dot_set}
 use Rattle.reading_items.specs.Reading.{item_by, item_at}
 use Rattle.reading_items.specs.Meets.{Fine, Behind, Room, Meets}
-use Rattle.reading_items.specs.declared.parts.Got.{Got}
-use Rattle.reading_items.specs.declared.parts.Got.TheVariants.{Refused as GotRefused}
+use Rattle.reading_items.specs.Answers.{Got, Got.GotRefused}
 
 -- A reading that is known.
 pub meet : {x : Part} {answer : Got} {before table' : List ℕ} (y : Part) → x ≡ y → Meets y answer before table'
@@ -59,14 +56,6 @@ behind_set f e = record {
   words = omega (arith, e, f.words);
   bytes = f.bytes;
 }
-
--- ---- classes and escapes
-module _ (s : List ℕ) (at : ℕ) where
-  pub class_holding : (c : Class) → class_of c ≡ class_at s at → c.closed ≡ true → class_at s at ≡ holds c.set c.end
-  class_holding c e f = sym e ∙ rw f
-
-  pub class_broken : (c : Class) → class_of c ≡ class_at s at → c.closed ≡ false → class_at s at ≡ broken c.number c.place
-  class_broken c e f = sym e ∙ rw f
 
 -- ---- an item by its first byte, where it is no `(`
 module _ (paren paren' : Opening → Part) (s : List ℕ) (at g : ℕ) where

@@ -1,4 +1,6 @@
 pub mod Reading
+pub mod Answers
+pub mod Highs
 pub mod Parts
 pub mod Facts
 pub mod Kept

@@ -13,11 +13,8 @@ use Rattle.table.specs.Stands.{Stands, Ends, Series}
 use Rattle.reading_atoms.specs.Chars.{byte_at, open_paren}
 use Rattle.reading_atoms.specs.Braces.{quantifier_at}
 use Rattle.reading_items.specs.Reading.{Part, Part.part, Part.turned, and_then, quantified, closed, item_at, alternatives_at}
-use Rattle.reading_items.specs.declared.parts.Got.{Got}
-use Rattle.reading_items.specs.declared.parts.Got.TheVariants.{Part as GotPart, Refused as GotRefused}
+use Rattle.reading_items.specs.Answers.{Got, Got.GotPart, Got.GotRefused, Opening, Opening.Inside, Opening.NotOpened}
 use Rattle.reading_items.specs.declared.series.Spliced.{Spliced}
-use Rattle.reading_items.specs.declared.openings.Opening.{Opening}
-use Rattle.reading_items.specs.declared.openings.Opening.TheVariants.{Inside, Refused as NotOpened}
 
 -- What every reader is handed: a place within a pattern that passed checks 1 to 3, groups within the limit, and a table with
 -- room. A part has at most two records for each of its bytes and one more, so each reader begins with two for each byte.

@@ -10,6 +10,6 @@ mod words;
 
 pub use leaves::single;
 pub use openings::{Opening, opening_at};
-pub use parts::{Got, closed};
+pub use parts::{Reached, closed};
 pub use series::{Spliced, joined, splice};
 pub use words::{clear, ends_sequence, first_high};

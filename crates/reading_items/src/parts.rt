@@ -1,48 +1,49 @@
-// What a reader answers, and what stands behind a part: its quantifier, or the `)` of what a `(` opened.
+// Where a reader stands, and what stands behind a part: its quantifier, or the `)` of what a `(` opened.
 ghost use Rattle.std.specs.Prelude.{◌≡◌, ◌*◌, ◌≤◌};
 ghost use Rattle.table.specs.Stands.{SomePart};
+ghost use Rattle.reading_items.specs.Answers.{got_of};
 ghost use Rattle.reading_items.specs.Meets.{Behind, Room, Quantifies, Closes, Groups};
 
-use meaning::refusals::UNMATCHED;
-use reading_atoms::{Quantifier, byte_at, quantifier_at};
+use meaning::refusals::{Refusal, Refused};
+use reading_atoms::{Repeat, byte_at, quantifier_at};
 use table::{GROUP, QUANTIFIER, put};
 
-// A part was read: the place behind it, the top of the table above its records, and the groups so far; or a refusal.
-#[derive(Drop)]
-pub enum Got {
-    Part { at: usize, top: usize, groups: u32 },
-    Refused { number: u32, place: usize },
+// How far a reading has come, as a reader is handed it and as it answers it: the place behind what was read, the top of the
+// table above its records, and the groups so far.
+#[derive(Clone, Copy, Debug, PartialEq, Eq)]
+pub struct Reached {
+    pub at: usize,
+    pub top: usize,
+    pub groups: u32,
 }
 
-// The part below `top` with the quantifier that stands at a place, if there is one.
-pub fn quantified(s: &[u8], at: usize, groups: u32, table: &mut [u32], top: usize) -> Got
-    requires { Behind s.now table.old at top × SomePart table.old top }
-    ensures { Quantifies s.now at groups top table.old table.new result }
+// The part below the top with the quantifier that stands at the place, if there is one.
+pub fn quantified(s: &[u8], table: &mut [u32], from: Reached) -> Result<Reached, Refused>
+    requires { Behind s.now table.old from.at from.top × SomePart table.old from.top }
+    ensures { Quantifies s.now from.at from.groups from.top table.old table.new (got_of result) }
 {
-    match quantifier_at(s, at) {
-        Quantifier::Once => Got::Part { at, top, groups },
-        Quantifier::Refused { number, place } => Got::Refused { number, place },
-        Quantifier::Repeated {
-            min,
-            max,
-            lazy,
-            end,
-        } => {
-            put(
-                table,
-                top,
-                QUANTIFIER,
-                0,
-                1,
-                [min, max, lazy as u32, 0, 0, 0, 0, 0],
-            );
-            Got::Part {
-                at: end,
-                top: top + 1,
-                groups,
-            }
-        }
-    }
+    let Some(repeat) = quantifier_at(s, from.at)? else {
+        return Ok(from);
+    };
+    let Repeat {
+        min,
+        max,
+        lazy,
+        end,
+    } = repeat;
+    put(
+        table,
+        from.top,
+        QUANTIFIER,
+        0,
+        1,
+        [min, max, lazy as u32, 0, 0, 0, 0, 0],
+    );
+    Ok(Reached {
+        at: end,
+        top: from.top + 1,
+        ..from
+    })
 }
 
 // The part below `top` as a group; `(?:` leaves no record.
@@ -58,16 +59,20 @@ fn grouped(table: &mut [u32], top: usize, group: u32) -> usize
 }
 
 // Behind what a `(` opened stand its `)` and its quantifier.
-pub fn closed(s: &[u8], at: usize, group: u32, groups: u32, table: &mut [u32], top: usize) -> Got
-    requires { Behind s.now table.old at top × SomePart table.old top × (top ≤ 2 * at) }
-    ensures { Closes s.now at group groups top table.old table.new result }
+pub fn closed(s: &[u8], table: &mut [u32], from: Reached, group: u32) -> Result<Reached, Refused>
+    requires { Behind s.now table.old from.at from.top × SomePart table.old from.top × (from.top ≤ 2 * from.at) }
+    ensures { Closes s.now from.at group from.groups from.top table.old table.new (got_of result) }
 {
-    if byte_at(s, at) != b')' as u32 {
-        return Got::Refused {
-            number: UNMATCHED,
-            place: at,
-        };
+    if byte_at(s, from.at) != Some(b')') {
+        return Err(Refused {
+            why: Refusal::Unmatched,
+            place: from.at,
+        });
     }
-    let next = grouped(table, top, group);
-    quantified(s, at + 1, groups, table, next)
+    let behind = Reached {
+        at: from.at + 1,
+        top: grouped(table, from.top, group),
+        ..from
+    };
+    quantified(s, table, behind)
 }

@@ -6,7 +6,7 @@ ghost use Rattle.reading_items.specs.Meets.{SomeGathered, Joins, Splices};
 use table::{EMPTY, ITEMS, KIND, put, word};
 
 // The top and the number of the parts that a part gives to a series.
-#[derive(Drop)]
+#[derive(Clone, Copy, Debug, PartialEq, Eq)]
 pub struct Spliced {
     pub top: usize,
     pub items: u32,

@@ -12,10 +12,9 @@ use Rattle.machine.specs.Repetition.{found_from, repetition, executed_in}
 use Rattle.machine.proofs.Repeated.{matches_few}
 use Rattle.running_moves.specs.Ready.{Ready, ready}
 use Rattle.repetition.specs.Listings.{lent_all, repetition_refusal, words_of, spans_of, listing_to, list_from, listed_by}
-use Rattle.repetition.specs.Listings.{Lists}
+use Rattle.repetition.specs.Listings.{Listed, Short, Refused, Lists}
 use Rattle.repetition.specs.Passing.{Passes}
-use Rattle.repetition.specs.declared.Tally.{Tally}
-use Rattle.repetition.specs.declared.Listing.TheVariants.{Listed, Short, Refused}
+use Rattle.repetition.specs.declared.Listed.{Listed as Tally}
 
 -- With registers for the most groups 23 never holds of code that passes: what is left are the grounds of a repetition.
 pub same_refusal : (code text : List ℕ) (start workspace : ℕ)

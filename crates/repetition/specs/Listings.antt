@@ -1,16 +1,32 @@
 -- What a call for every match answers and leaves behind. Definitions only.
-use Rattle.std.specs.Prelude.{◌≡◌, cond, not, List, [], ◌∷◌, ◌++◌, map, ℕ, zero, suc, ◌≤◌, ltb, ℤ, length, get_or, drop}
+use Rattle.std.specs.Prelude.{◌≡◌, Result, Ok, Err, cond, not, List, [], ◌∷◌, ◌++◌, map, ℕ, zero, suc, ◌≤◌, ltb, ℤ, length, get_or, drop}
 use Rattle.meaning.specs.Limits.{text_limit, workspace_words}
 use Rattle.meaning.specs.Refusals as No
+use Rattle.meaning.specs.Refusing.{number_of}
 use Rattle.meaning.specs.Grounds.{Ground, ground, first_of}
 use Rattle.meaning.specs.Text.{Regs}
 use Rattle.meaning.specs.Results.{concat_map}
 use Rattle.machine.specs.Words.{rows_said, groups_said, code_passes}
 use Rattle.machine.specs.Replies.{shown}
 use Rattle.machine.specs.Repetition.{repetition, executed_in, list_words}
-use Rattle.repetition.specs.declared.Listing.{Listing}
-use Rattle.repetition.specs.declared.Listing.TheVariants.{Listed, Short, Refused}
-use Rattle.repetition.specs.declared.Tally.{Tally}
+use Rattle.repetition.specs.declared.Listed.{Listed as Tally}
+use Rattle.repetition.specs.declared.Unlisted.{Unlisted}
+
+-- What a call answers: every match stands in the list, how many there are and the count of rows executed; or the list is too
+-- short, and so many words are needed; or it is turned away by a number.
+pub data Listing : Type 0 where
+  Listed : ℕ → ℕ → Listing
+  Short : ℕ → Listing
+  Refused : ℕ → Listing
+
+-- The answer where every match stands in the list.
+abbrev pub listed_by : Tally → Listing
+listed_by found = Listed found.matches found.count
+
+abbrev pub listing_of : Result Tally Unlisted → Listing
+listing_of (Ok found) = listed_by found
+listing_of (Err (Unlisted.Short needed)) = Short needed
+listing_of (Err (Unlisted.Refused why)) = Refused (number_of why)
 
 -- The outline's values for each case: the number by which it is turned away, 0 if it is not; the place; the count of rows
 -- executed; how many matches there are; and how many words are needed, where the list is too short.
@@ -89,7 +105,3 @@ pub record Lists (code text : List ℕ) (start : ℕ) (list list' : List ℤ) (w
   pub long : length workspace' ≡ length workspace
   pub later : (i : ℕ) → workspace_words (rows_said code) (groups_said code) ≤ i → get_or workspace' i 0 ≡ get_or workspace i 0
   pub untouched : (number : ℕ) → answer ≡ Refused number → workspace' ≡ workspace
-
--- The answer where every match stands in the list.
-abbrev pub listed_by : Tally → Listing
-listed_by found = Listed found.matches found.count

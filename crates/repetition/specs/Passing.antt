@@ -4,7 +4,7 @@ use Rattle.meaning.specs.Limits.{workspace_words}
 use Rattle.machine.specs.Words.{rows_said, groups_said}
 use Rattle.machine.specs.Repetition.{repetition, executed_in}
 use Rattle.repetition.specs.Listings.{words_of, spans_of}
-use Rattle.repetition.specs.declared.Tally.{Tally}
+use Rattle.repetition.specs.declared.Listed.{Listed as Tally}
 
 -- Numbers in a list from a place on, if it has room for them.
 abbrev pub placed : ℕ → List ℤ → List ℤ → List ℤ

@@ -9,26 +9,34 @@ ghost use Rattle.running_moves.specs.Ready.{Ready};
 ghost use Rattle.running_threads.specs.Words.{words_at};
 ghost use Rattle.running_threads.specs.Threads.{reg_of};
 ghost use Rattle.engine.specs.Answers.{shown_word};
-ghost use Rattle.repetition.specs.Listings.{listed_by, Lists};
+ghost use Rattle.repetition.specs.Listings.{listing_of, Lists};
 ghost use Rattle.repetition.specs.Passing.{placed, Passes};
+ghost use Rattle.repetition.specs.declared.Unlisted.TheVariants.{Refused};
 
 use machine::{GROUPS, SEARCH_ROW};
 use meaning::limits::{POSITION_LIMIT, REGISTER_LIMIT};
+use meaning::refusals::Refusal;
 
-// Every match stands in the list: how many there are, and the count of rows executed. Or the list is too short, and so many
-// words are needed. Or turned away, by a number.
-#[derive(Drop)]
-pub enum Listing {
-    Listed { matches: usize, count: u64 },
-    Short { needed: usize },
-    Refused(u32),
-}
-
-// What a repetition found: how many matches, and the sum of its runs' counts.
-#[derive(Drop)]
-pub struct Tally {
+// Every match stands in the list: how many there are, and the count of rows executed.
+#[derive(Clone, Copy, Debug, PartialEq, Eq)]
+pub struct Listed {
     pub matches: usize,
     pub count: u64,
+}
+
+// Why no match stands in the list: it is too short, and so many words are needed; or the call is turned away.
+#[derive(Clone, Copy, Debug, PartialEq, Eq)]
+pub enum Unlisted {
+    Short { needed: usize },
+    Refused(Refusal),
+}
+
+impl From<Refusal> for Unlisted {
+    ghost from_gives = { λ why unlisted. unlisted ≡ Refused why };
+
+    fn from(why: Refusal) -> Unlisted {
+        Unlisted::Refused(why)
+    }
 }
 
 // Where the next run starts, from a run's start and the words of the first two registers.
@@ -39,17 +47,12 @@ fn next_start(start: usize, from: u32, to: u32) -> usize
     if POSITION_LIMIT <= to {
         return start + 1;
     }
-    let end = running_threads::wide(to);
-    if from == to {
-        if end < start {
-            return start + 1;
-        }
-        return end + 1;
-    }
-    if end <= start {
-        return start + 1;
-    }
-    end
+    let next = if from == to {
+        to as usize + 1
+    } else {
+        to as usize
+    };
+    next.max(start + 1)
 }
 
 // The words of a match behind those that are filled, if the list has room for them.
@@ -65,7 +68,7 @@ fn put(list: &mut [i32], filled: usize, work: &[u32], from: usize, width: usize)
 }
 
 // The repetition of code on a text. Its matches are written one behind the other, as long as the list has room.
-fn pass(code: &[u32], text: &[u8], start: usize, list: &mut [i32], work: &mut [u32]) -> Tally
+fn pass(code: &[u32], text: &[u8], start: usize, list: &mut [i32], work: &mut [u32]) -> Listed
     requires ready { Ready code.now × (length text.now ≤ text_limit) }
     requires code_in_bounds { workspace_words (rows_said code.now) (groups_said code.now) ≤ length work.old }
     ensures { Passes code.now text.now start list.old list.new
@@ -77,35 +80,16 @@ fn pass(code: &[u32], text: &[u8], start: usize, list: &mut [i32], work: &mut [u
     let mut count: u64 = 0;
     while at <= text.len() {
         let ran = running::run(code, text, at, SEARCH_ROW, work);
-        let rows = ran.count;
-        count += rows;
+        count += ran.count;
         if !ran.found {
-            return Tally {
-                matches: matches,
-                count: count,
-            };
+            return Listed { matches, count };
         }
-        let best = ran.best;
-        let width = ran.width;
-        put(list, filled, work, best, width);
-        filled += width;
+        put(list, filled, work, ran.best, ran.width);
+        filled += ran.width;
         matches += 1;
-        at = next_start(at, work[best], work[best + 1]);
+        at = next_start(at, work[ran.best], work[ran.best + 1]);
     }
-    Tally {
-        matches: matches,
-        count: count,
-    }
-}
-
-// The answer where every match stands in the list.
-fn listed(found: Tally) -> Listing
-    ensures { result ≡ listed_by found }
-{
-    Listing::Listed {
-        matches: found.matches,
-        count: found.count,
-    }
+    Listed { matches, count }
 }
 
 // Every match, in order, from a start on. The list stays untouched until their number is known: where it may be too short, they
@@ -116,22 +100,19 @@ pub fn search_all(
     start: usize,
     list: &mut [i32],
     workspace: &mut [u32],
-) -> Listing
+) -> Result<Listed, Unlisted>
     ensures { Lists code.now text.now start list.old list.new
-        workspace.old workspace.new result }
+        workspace.old workspace.new (listing_of result) }
 {
-    let number = engine::turned_away(code, text, start, REGISTER_LIMIT, workspace.len());
-    if number != 0 {
-        return Listing::Refused(number);
-    }
-    let width = 2 * (running_threads::wide(code[GROUPS]) + 1);
+    engine::turned_away(code, text, start, REGISTER_LIMIT, workspace.len())?;
+    let width = 2 * (code[GROUPS] as usize + 1);
     if (text.len() - start + 1) * width <= list.len() {
-        return listed(pass(code, text, start, list, workspace));
+        return Ok(pass(code, text, start, list, workspace));
     }
     let counted = pass(code, text, start, &mut list[0..0], workspace);
     let needed = counted.matches * width;
     if list.len() < needed {
-        return Listing::Short { needed: needed };
+        return Err(Unlisted::Short { needed });
     }
-    listed(pass(code, text, start, list, workspace))
+    Ok(pass(code, text, start, list, workspace))
 }

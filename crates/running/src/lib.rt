@@ -15,7 +15,8 @@ use meaning::limits::NO_BYTE;
 use running_moves::CONSUMED;
 use running_threads::{NOWHERE, Plan, Spot};
 
-// Whether a thread won, the count of rows executed, and where the registers of the result lie: all -1 if none won.
+// Whether a thread won, the count of rows executed, and where the registers of the result lie: all -1 if none won. `found` is a
+// flag beside them, and no Option around them, since a caller shows the registers in both cases.
 #[derive(Drop)]
 pub struct Ran {
     pub found: bool,
@@ -29,20 +30,20 @@ fn plan_of(code: &[u32]) -> Plan
     requires { Ready code.now }
     ensures { PlanOf code.now result }
 {
-    let rows = running_threads::wide(code[ROWS]);
-    let groups = running_threads::wide(code[GROUPS]);
+    let rows = code[ROWS] as usize;
+    let groups = code[GROUPS] as usize;
     let keys = rows * 2;
     let width = 2 * (groups + 1);
     let depth = keys * width;
     let tags = keys * 3;
     let olds = tags + depth;
     Plan {
-        rows: rows,
-        keys: keys,
-        width: width,
-        depth: depth,
-        tags: tags,
-        olds: olds,
+        rows,
+        keys,
+        width,
+        depth,
+        tags,
+        olds,
         best: olds + depth * 3,
     }
 }
@@ -51,19 +52,20 @@ fn plan_of(code: &[u32]) -> Plan
 pub fn byte_after(text: &[u8], position: usize) -> u32
     ensures { byte_of result ≡ byte_after text.now position }
 {
-    if position < text.len() {
-        return text[position] as u32;
+    match text.get(position) {
+        Some(b) => *b as u32,
+        None => NO_BYTE,
     }
-    NO_BYTE
 }
 
 pub fn byte_before(text: &[u8], position: usize) -> u32
     ensures { byte_of result ≡ byte_before text.now position }
 {
-    if 0 < position {
-        return byte_after(text, position - 1);
+    if position == 0 {
+        NO_BYTE
+    } else {
+        byte_after(text, position - 1)
     }
-    NO_BYTE
 }
 
 // The first position of a run, between two bytes.
@@ -71,18 +73,16 @@ fn first_spot(plan: Plan, start: usize, before: u32, after: u32) -> Spot
     requires { Planned plan }
     ensures { result ≡ first_spot plan start before after }
 {
-    let keys = plan.keys;
-    let depth = plan.depth;
-    let registers = plan.olds + depth;
+    let registers = plan.olds + plan.depth;
     Spot {
         position: start,
-        before: before,
-        after: after,
-        active: keys,
-        registers: registers,
+        before,
+        after,
+        active: plan.keys,
+        registers,
         threads: 1,
-        queue: keys * 2,
-        stored: registers + depth,
+        queue: plan.keys * 2,
+        stored: registers + plan.depth,
     }
 }
 
@@ -94,10 +94,10 @@ fn next_spot(spot: Spot, threads: usize, after: u32) -> Spot
     Spot {
         position: spot.position + 1,
         before: spot.after,
-        after: after,
+        after,
         active: spot.queue,
         registers: spot.stored,
-        threads: threads,
+        threads,
         queue: spot.active,
         stored: spot.registers,
     }
@@ -108,13 +108,10 @@ fn prepare(work: &mut [u32], plan: Plan, row: usize)
     requires { Planned plan × (row < plan.rows) × (plan.best + plan.width ≤ length work.old) }
     ensures { Prepared plan row work.old work.new }
 {
-    let keys = plan.keys;
-    let registers = plan.olds + plan.depth;
-    let width = plan.width;
-    running_threads::spread(work, 0, keys, 0);
-    work[keys] = (row * 2 + CONSUMED) as u32;
-    running_threads::spread(work, registers, width, NOWHERE);
-    running_threads::spread(work, plan.best, width, NOWHERE);
+    running_threads::spread(work, 0, plan.keys, 0);
+    work[plan.keys] = (row * 2 + CONSUMED) as u32;
+    running_threads::spread(work, plan.olds + plan.depth, plan.width, NOWHERE);
+    running_threads::spread(work, plan.best, plan.width, NOWHERE);
 }
 
 // The run of code on a text from a position and a row to its end.
@@ -136,19 +133,16 @@ pub fn run(code: &[u32], text: &[u8], start: usize, row: usize, work: &mut [u32]
     let mut count: u64 = 0;
     loop {
         let turn = running_settle::settle(code, work, plan, spot);
-        let ran = turn.ran;
-        let queued = turn.queued;
-        count += ran as u64;
+        count += turn.ran as u64;
         found = found | turn.accept;
-        if queued == 0 {
+        if turn.queued == 0 {
             return Ran {
-                found: found,
-                count: count,
+                found,
+                count,
                 best: plan.best,
                 width: plan.width,
             };
         }
-        let position = spot.position;
-        spot = next_spot(spot, queued, byte_after(text, position + 1));
+        spot = next_spot(spot, turn.queued, byte_after(text, spot.position + 1));
     }
 }

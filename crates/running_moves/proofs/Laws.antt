@@ -1,24 +1,20 @@
 -- The bytes that words stand for, and what a row does by its kind.
 -- Assumes nothing.
-use mathlib.Core.Path.{◌≡◌, sym, ap, ◌∙◌}
-use mathlib.Core.Bool.{false, not}
+use mathlib.Core.Path.{◌≡◌, sym}
+use mathlib.Core.Bool.{false, not, ◌||◌}
 use mathlib.Core.Option.{Option, none, some}
-use mathlib.Core.List.{List, [], ◌∷◌}
+use mathlib.Core.List.{[], ◌∷◌}
 use Prim.Native.Nat.{ℕ, zero, suc, ◌≤◌, ◌<◌}
 use native.Mathlib.Omega.{arith}
 use native.Mathlib.Decide.{dec_lt}
-use lib.Dec.{leb}
+use lib.Dec.{leb, eqb}
 use lib.ListN.{get_or-eq_default}
 use borrow.Author.Tests.{lt-ltb, le-ltb, le-leb, lt-leb, ne_eqb}
-use Rattle.sets.specs.Sets.{is_word, is_digit}
+use Rattle.sets.specs.Sets.{between, is_word, is_digit}
 use Rattle.meaning.specs.Limits.{last_assertion}
 use Rattle.meaning.specs.Text.{passes}
 use Rattle.meaning.specs.Bytes.{no_byte, at_edge, asserts}
-use Rattle.machine.specs.Words.{word_at, row_start, row_in}
-use Rattle.running_moves.specs.Keys.{row_of}
-use Rattle.running_moves.specs.Chosen.{byte_limit, byte_of, chosen}
-use Rattle.running_moves.specs.Ready.{row_of_kind, row_is}
-use Rattle.running_moves.specs.declared.Move.{Move}
+use Rattle.running_moves.specs.Chosen.{byte_limit, byte_of}
 
 -- The byte that a word stands for, if it stands for one.
 pub byte_there : {b : ℕ} → b < byte_limit → byte_of b ≡ some b
@@ -55,17 +51,17 @@ word_byte b = elim (dec_lt b byte_limit) [
       )
 ]
 
+-- The tests that tell it.
+pub word_tests : (b : ℕ) → passes is_word (byte_of b)
+    ≡ between 0x41 0x5A b || (between 0x61 0x7A b || (between 0x30 0x39 b || eqb b 0x5F))
+unfolding is_word is_digit
+word_tests b = sym (word_byte b)
+
 -- No assertion has a higher number.
 pub no_assertion : (a : ℕ) (before after : Option ℕ) → last_assertion < a → asserts a before after ≡ false
 unfolding asserts
 no_assertion a before after h =
     get_or-eq_default (no_byte before ∷ no_byte after ∷ at_edge before after ∷ not (at_edge before after) ∷ []) false h
-
--- What a row of the kind that the code says does, the row does.
-pub by_kind : (code : List ℕ) (before after : Option ℕ) (key : ℕ) {kind : ℕ} {m : Move}
-    → word_at code (row_start (row_of key)) ≡ kind → m ≡ chosen before after key (row_of_kind code (row_of key) kind)
-    → m ≡ chosen before after key (row_in code (row_of key))
-by_kind code before after key h e = e ∙ ap (chosen before after key) (sym (row_is code (row_of key) h))
 
 -- A number is none of those from 1 to n, as the last arm of a match knows it.
 abbrev pub NoneTo : ℕ → ℕ → Type 0

@@ -3,7 +3,7 @@
 
 ghost use Rattle.std.specs.Prelude.{◌≡◌, ◌+◌, ◌*◌, ◌<◌, ◌≤◌, length};
 ghost use Rattle.std.proofs.Math.Option.{none};
-ghost use Rattle.sets.specs.Sets.{between, has, is_word};
+ghost use Rattle.sets.specs.Sets.{has, is_word};
 ghost use Rattle.meaning.specs.Limits.{row_limit, row_words};
 ghost use Rattle.meaning.specs.Text.{passes};
 ghost use Rattle.meaning.specs.Bytes.{asserts, at_edge};
@@ -43,29 +43,21 @@ pub const CLEAR: usize = 0;
 
 pub const CONSUMED: usize = 1;
 
-// Whether byte b is in the set of a row: bit b mod 32 of word b div 32. No other routine tests a byte against a row's set.
+// Whether byte b is in the set of a row. No other routine tests a byte against a row's set.
 pub fn row_has(code: &[u32], row: usize, b: u32) -> bool
     requires { (b < byte_limit) × (row_words * (row + 2) ≤ length code.now) }
     ensures { result ≡ has (set_in code.now row) b }
 {
     let from = ROW_WORDS * (row + 1) + SET;
-    let set = &code[from..from + SET_WORDS];
-    let word = set[b as usize / 32];
-    (word >> (b % 32)) & 1 == 1
-}
-
-// Whether a byte lies between two others, both included.
-fn between(first: u32, last: u32, b: u32) -> bool
-    ensures { result ≡ between first last b }
-{
-    (first <= b) & (b <= last)
+    sets::has(&code[from..from + SET_WORDS], b)
 }
 
 // Whether there is a byte, and it is a word byte: A-Z a-z 0-9 or _.
+#[tactic(auto, using(crate::proofs::Laws::word_tests, std::proofs::lemmas::Bool::Decides::nat_tests))]
 fn is_word(b: u32) -> bool
     ensures { result ≡ passes is_word (byte_of b) }
 {
-    between(0x41, 0x5A, b) | (between(0x61, 0x7A, b) | (between(0x30, 0x39, b) | (b == 0x5F)))
+    matches!(b, 0x41..=0x5A | 0x61..=0x7A | 0x30..=0x39 | 0x5F)
 }
 
 // Whether one of two bytes is a word byte and the other is not.
@@ -76,6 +68,7 @@ fn at_edge(before: u32, after: u32) -> bool
 }
 
 // Whether an assertion holds between two bytes; no other number does.
+#[tactic(auto, using(crate::proofs::Laws::no_byte_lem), unfolding(meaning::specs::Bytes::asserts))]
 fn holds(assertion: u32, before: u32, after: u32) -> bool
     ensures { result ≡ asserts assertion (byte_of before) (byte_of after) }
 {
@@ -94,12 +87,11 @@ fn consumed(code: &[u32], key: usize, after: u32) -> Move
     ensures { result ≡ chosen none (byte_of after) key (Row.consume (set_in code.now (row_of key))) }
 {
     let row = key / 2;
-    if after < NO_BYTE {
-        if row_has(code, row, after) {
-            return Move::Eat((row + 1) * 2 + CONSUMED);
-        }
+    if after < NO_BYTE && row_has(code, row, after) {
+        Move::Eat((row + 1) * 2 + CONSUMED)
+    } else {
+        Move::Lose
     }
-    Move::Lose
 }
 
 fn jumped(key: usize, target: u32) -> Move
@@ -147,9 +139,10 @@ fn turned_back(key: usize, target: u32) -> Move
 {
     let flag = key % 2;
     if flag == CONSUMED {
-        return Move::On(target as usize * 2 + flag);
+        Move::On(target as usize * 2 + flag)
+    } else {
+        Move::Lose
     }
-    Move::Lose
 }
 
 fn asserted(key: usize, assertion: u32, before: u32, after: u32) -> Move
@@ -157,12 +150,14 @@ fn asserted(key: usize, assertion: u32, before: u32, after: u32) -> Move
     ensures { result ≡ chosen (byte_of before) (byte_of after) key (Row.assertion assertion) }
 {
     if holds(assertion, before, after) {
-        return Move::On(key + 2);
+        Move::On(key + 2)
+    } else {
+        Move::Lose
     }
-    Move::Lose
 }
 
 // What the row of a key does between two bytes. Each kind has an arm; the last is never reached: the check lists the kinds.
+#[tactic(auto, using(crate::specs::Ready::row_is))]
 pub fn move_of(code: &[u32], before: u32, after: u32, key: usize) -> Move
     requires { Ready code.now × (key < keys_of (rows_said code.now)) }
     ensures { result ≡ chosen (byte_of before) (byte_of after) key (row_in code.now (row_of key)) }

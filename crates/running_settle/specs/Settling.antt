@@ -1,5 +1,5 @@
 -- The turns of a position, one after the other: the machine that the words stand for is reached by steps.
-use Rattle.std.specs.Prelude.{◌≡◌, refl, Bool, true, false, List, ◌++◌, ℕ, ◌+◌, ◌<◌, ◌≤◌, length, get_or}
+use Rattle.std.specs.Prelude.{◌≡◌, refl, Bool, true, false, Option, Some, None, List, ◌++◌, ℕ, ◌+◌, ◌<◌, ◌≤◌, length, get_or}
 use Rattle.std.proofs.Common.{sym, ap, ap₂, ◌∙◌, subst, ⊎_elim, true≢false, arith}
 use Rattle.machine.specs.Steps.{Thread}
 use Rattle.running_threads.specs.Words.{words_at, Pasted}
@@ -116,13 +116,13 @@ module _ {code : List ℕ} {plan : Plan} {spot : Spot} {s₀ s t : List ℕ} {ke
 
 -- A turn did not win, and what is active then was taken.
 pub record Next (code : List ℕ) (plan : Plan) (spot : Spot) (s₀ t : List ℕ) (index : ℕ) (turn : Turn) (u : List ℕ)
-    (y : Taken) : Type 0 where
+    (y : Option Taken) : Type 0 where
   pub laid : Laid plan spot (length s₀)
   pub reached : Reached code plan spot s₀ t index turn (behind t plan spot index turn)
   pub long : length u ≡ length t
   pub took : Took plan spot turn.at index turn.frames t u y
 
-module _ {code : List ℕ} {plan : Plan} {spot : Spot} {s₀ t u : List ℕ} {index : ℕ} {turn : Turn} {y : Taken}
+module _ {code : List ℕ} {plan : Plan} {spot : Spot} {s₀ t u : List ℕ} {index : ℕ} {turn : Turn} {y : Option Taken}
     (n : Next code plan spot s₀ t index turn u y) where
   before : (j : ℕ) → j < spot.registers → get_or u j 0 ≡ get_or t j 0
   before j h = n.took.only.before j (omega (arith, n.reached.runs.low))
@@ -149,63 +149,63 @@ module _ {code : List ℕ} {plan : Plan} {spot : Spot} {s₀ t u : List ℕ} {in
       let p = q.planned in
       fresh_same t u (mark_of spot) plan.keys (λ j lt. before j (omega arith))
 
-  pub taken : y.go ≡ true → Reached code plan spot s₀ u y.index (handed turn y)
-      (in_hand u plan spot y.key y.index (handed turn y))
-  taken goes =
+module _ {code : List ℕ} {plan : Plan} {spot : Spot} {s₀ t u : List ℕ} {index : ℕ} {turn : Turn} where
+  pub taken : {y : Taken} → Next code plan spot s₀ t index turn u (Some y)
+      → Reached code plan spot s₀ u y.index (handed turn y) (in_hand u plan spot y.key y.index (handed turn y))
+  taken n =
       let q = n.laid in
       let p = q.planned in
       let g = n.reached in
-      let k = n.took in
-      let f = unmarked_same in
+      let k = n.took.taken in
+      let f = unmarked_same n in
       record {
         long = n.long ∙ g.long;
         runs = k.runs;
         tags = record {
           each = λ j lt. subst (λ (z : ℕ). z < plan.keys + plan.width)
-              (sym (before (plan.tags + j) (omega (arith, k.most, g.deep)))) (g.tags.each j (omega (arith, k.most)));
+              (sym (before n (plan.tags + j) (omega (arith, k.most, g.deep)))) (g.tags.each j (omega (arith, k.most)));
         };
         deep = rw f (omega (arith, g.deep, k.most));
         few = rw f g.few;
         ran = rw f g.ran;
         going = refl;
-        active = below_same g.active (λ j lt. before (spot.active + j) (omega arith));
-        queue = below_same g.queue (λ j lt. before (spot.queue + j) (omega (arith, g.few)));
-        marks = below_same g.marks (λ j lt. before (0 + j) (omega arith));
-        tail = λ j h. after j h ∙ g.tail j h;
+        active = below_same g.active (λ j lt. before n (spot.active + j) (omega arith));
+        queue = below_same g.queue (λ j lt. before n (spot.queue + j) (omega (arith, g.few)));
+        marks = below_same g.marks (λ j lt. before n (0 + j) (omega arith));
+        tail = λ j h. after n j h ∙ g.tail j h;
         got = λ text sees b c.
             let z = g.got text sees b c in (
               z.0,
-              seen_same z.1 (λ j lt. before j (omega arith)),
-              leads_to_lem z.2 (machine_eq (k.more goes) (sym queue_same) refl refl),
+              seen_same z.1 (λ j lt. before n j (omega arith)),
+              leads_to_lem z.2 (machine_eq k.more (sym (queue_same n)) refl refl),
             );
       }
 
-  pub none_left : y.go ≡ false → SettledAs code plan spot s₀ u turn
-  none_left stops =
+  pub none_left : Next code plan spot s₀ t index turn u None → SettledAs code plan spot s₀ u turn
+  none_left n =
       let q = n.laid in
       let p = q.planned in
       let g = n.reached in
-      let k = n.took in
       record {
         got = λ text sees b c.
             let z = g.got text sees b c in (
               z.0,
               leads_to_lem z.2
-                  (machine_eq (k.none stops) (sym queue_same)
+                  (machine_eq n.took.taken (sym (queue_same n))
                   (ap (λ (a : Bool). best_of a (words_at u plan.best plan.width) b) (sym g.going)) refl),
             );
-        marks = below_same g.marks (λ j lt. before (0 + j) (omega arith));
-        keys = below_same g.queue (λ j lt. before (spot.queue + j) (omega (arith, g.few)));
+        marks = below_same g.marks (λ j lt. before n (0 + j) (omega arith));
+        keys = below_same g.queue (λ j lt. before n (spot.queue + j) (omega (arith, g.few)));
         most = omega (arith, g.few);
         ran = omega (arith, g.ran);
-        tail = λ j h. after j (omega arith) ∙ g.tail j (omega arith);
-        best = λ z j h. after j h ∙ g.tail j h;
+        tail = λ j h. after n j (omega arith) ∙ g.tail j (omega arith);
+        best = λ z j h. after n j h ∙ g.tail j h;
       }
 
 -- A turn and the next thread leave less to do.
 pub less_left : {code : List ℕ} {plan : Plan} {spot : Spot} {s₀ s t u : List ℕ} {key index : ℕ} {turn x : Turn} {y : Taken}
-    → Over code plan spot s₀ s key index turn t x → Next code plan spot s₀ t index x u y → y.go ≡ true
+    → Over code plan spot s₀ s key index turn t x → Next code plan spot s₀ t index x u (Some y)
     → to_do plan spot u y.index y.frames < to_do plan spot s index turn.frames
-less_left o n goes =
+less_left o n =
     let w = o.executed in
-    rw (unmarked_same n) (omega (arith, w.deep, w.ran, w.more, n.took.less goes))
+    rw (unmarked_same n) (omega (arith, w.deep, w.ran, w.more, n.took.taken.less))

@@ -13,7 +13,7 @@ use running_moves::Move;
 use running_threads::{Plan, Spot};
 
 // A thread's turn: where its registers are, the frames and the queued threads, how many rows were executed at this position,
-// and whether it won.
+// and whether it won: a flag, since the other words of a winner are wanted as those of any thread.
 #[derive(Drop)]
 pub struct Turn {
     pub at: usize,
@@ -28,9 +28,8 @@ fn eat(work: &mut [u32], plan: Plan, spot: Spot, mut turn: Turn, key: usize) -> 
     requires { Ample plan spot turn work.old × Ranged plan.rows plan.width (Move.Eat key) }
     ensures { Applied plan spot (Move.Eat key) turn work.old work.new result }
 {
-    let queued = turn.queued;
-    running_threads::queue(work, plan, spot, turn.at, queued, key);
-    turn.queued = queued + 1;
+    running_threads::queue(work, plan, spot, turn.at, turn.queued, key);
+    turn.queued += 1;
     turn
 }
 
@@ -39,9 +38,8 @@ fn go_on(work: &mut [u32], plan: Plan, mut turn: Turn, key: usize) -> Turn
     requires { Room plan turn work.old × Ranged plan.rows plan.width (Move.On key) }
     ensures { Went plan (pushes 0 (Move.On key)) turn work.old work.new result }
 {
-    let frames = turn.frames;
-    running_threads::push(work, plan, frames, key);
-    turn.frames = frames + 1;
+    running_threads::push(work, plan, turn.frames, key);
+    turn.frames += 1;
     turn
 }
 
@@ -112,16 +110,14 @@ fn execute(code: &[u32], work: &mut [u32], plan: Plan, spot: Spot, key: usize, t
     requires { Ready code.now × Serves code.now plan × Turning plan spot key turn work.old }
     ensures { Executed code.now plan spot key turn work.old work.new result }
 {
-    let position = spot.position;
-    let mark = (position + 1) as u32;
+    let mark = (spot.position + 1) as u32;
     if work[key] == mark {
         return turn;
     }
     work[key] = mark;
     let mv = running_moves::move_of(code, spot.before, spot.after, key);
     let mut done = apply(work, plan, spot, turn, mv);
-    let ran = done.ran;
-    done.ran = ran + 1;
+    done.ran += 1;
     done
 }
 
@@ -132,8 +128,7 @@ pub fn settle(code: &[u32], work: &mut [u32], plan: Plan, spot: Spot) -> Turn
     requires laid { Laid plan spot (length work.old) × Opens plan spot work.old }
     ensures { SettledAs code.now plan spot work.old work.new result }
 {
-    let active = spot.active;
-    let mut key = running_threads::wide(work[active]);
+    let mut key = work[spot.active] as usize;
     let mut index: usize = 1;
     let mut turn = Turn {
         at: spot.registers,
@@ -148,10 +143,9 @@ pub fn settle(code: &[u32], work: &mut [u32], plan: Plan, spot: Spot) -> Turn
             running_threads::copy(work, done.at, plan.best, plan.width);
             return done;
         }
-        let next = running_threads::take(work, plan, spot, done.at, index, done.frames);
-        if !next.go {
+        let Some(next) = running_threads::take(work, plan, spot, done.at, index, done.frames) else {
             return done;
-        }
+        };
         key = next.key;
         index = next.index;
         turn = Turn {

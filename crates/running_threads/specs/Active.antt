@@ -1,6 +1,6 @@
 -- What is kept at a position, and its first active thread.
-use Rattle.std.specs.Prelude.{◌≡◌, refl, true, false, length, set}
-use Rattle.std.proofs.Common.{sym, ◌∙◌, subst, true≢false, mul-le-mul_right, length-set, get_or-set_other}
+use Rattle.std.specs.Prelude.{◌≡◌, refl, Option, Some, None, length, set}
+use Rattle.std.proofs.Common.{sym, ◌∙◌, subst, mul-le-mul_right, length-set, get_or-set_other}
 use Rattle.std.proofs.Math.Path.{ap, ap₂}
 use mathlib.Core.List.{List, [], ◌∷◌, ◌++◌}
 use Prim.Native.Nat.{ℕ, suc, ◌+◌, ◌-◌, ◌*◌, ◌<◌, ◌≤◌}
@@ -126,18 +126,18 @@ module _ {plan : Plan} {at frames top tag : ℕ} {s t : List ℕ} (g : Tagged pl
             (omega (arith, g.some, g.undone.most, g.stack.most, g.stack.frame.after)),
       )
 
-  pub popped_key : tag < plan.keys → Popped plan at frames s t (record { go = true; key = tag; frames = top - 1 })
+  pub popped_key : tag < plan.keys → Popped plan at frames s t (Some (record { key = tag; frames = top - 1 }))
   popped_key low =
       let rs = words_at t at plan.width in
       record {
-        more = λ _. g.undone.stack ∙ ap (λ (n : ℕ). undo t plan n rs) (sym one)
-            ∙ undo_thread t plan (top - 1) rs (omega (arith, g.there))
-            ∙ ap (λ (key : ℕ). thread_of key rs ∷ undo t plan (top - 1) rs) (sym g.there);
-        none = λ z. absurd (true≢false z);
+        off = record {
+          more = g.undone.stack ∙ ap (λ (n : ℕ). undo t plan n rs) (sym one)
+              ∙ undo_thread t plan (top - 1) rs (omega (arith, g.there))
+              ∙ ap (λ (key : ℕ). thread_of key rs ∷ undo t plan (top - 1) rs) (sym g.there);
+          low = low;
+          fewer = omega (arith, g.some, g.undone.most);
+        };
         only = g.undone.only;
-        low = low;
-        fewer = λ _. omega (arith, g.some, g.undone.most);
-        most = omega (arith, g.undone.most);
       }
 
   -- a turn that puts a register back
@@ -171,79 +171,66 @@ pub undone_none : {plan : Plan} {at frames : ℕ} {s : List ℕ} → Undone plan
 undone_none = record { most = omega arith; long = refl; stack = refl; only = only_refl }
 
 -- no frame, no thread
-pub popped_none : {plan : Plan} {at frames top : ℕ} {s t : List ℕ} → Undone plan at frames s top t → top ≡ 0 → 0 < plan.keys
-    → Popped plan at frames s t (record { go = false; key = 0; frames = 0 })
+pub popped_none : {plan : Plan} {at frames top : ℕ} {s t : List ℕ} → Undone plan at frames s top t → top ≡ 0
+    → Popped plan at frames s t None
 unfolding undo
-popped_none {plan} {at} {t = t} u e h =
-    record {
-      more = λ z. absurd (true≢false (sym z));
-      none = λ _. u.stack ∙ ap (λ (n : ℕ). undo t plan n (words_at t at plan.width)) e;
-      only = u.only;
-      low = h;
-      fewer = λ z. absurd (true≢false (sym z));
-      most = omega arith;
-    }
+popped_none {plan} {at} {t = t} u e =
+    record { off = u.stack ∙ ap (λ (n : ℕ). undo t plan n (words_at t at plan.width)) e; only = u.only }
 
 -- ---- the first active thread
 
--- A frame came off the stack, at a position whose threads are taken up to an index.
-pub record Came (plan : Plan) (spot : Spot) (at index frames : ℕ) (s t : List ℕ) (x : Off) : Type 0 where
+-- What came off the stack, at a position whose threads are taken up to an index.
+pub record Came (plan : Plan) (spot : Spot) (at index frames : ℕ) (s t : List ℕ) (x : Option Off) : Type 0 where
   pub laid : Laid plan spot (length s)
   pub runs : Runs plan spot at index
   pub keys : Below s spot.active spot.threads plan.keys
   pub long : length t ≡ length s
   pub popped : Popped plan at frames s t x
 
-module _ {plan : Plan} {spot : Spot} {at index frames : ℕ} {s t : List ℕ} {x : Off}
-    (g : Came plan spot at index frames s t x) where
-  same_rest : rest t plan spot index ≡ rest s plan spot index
-  same_rest = rest_stays s g.laid g.runs g.long (only_stays s g.laid g.runs g.popped.only)
+module _ {plan : Plan} {spot : Spot} {at index frames : ℕ} {s t : List ℕ} where
+  same_rest : {x : Option Off} → Came plan spot at index frames s t x → rest t plan spot index ≡ rest s plan spot index
+  same_rest g = rest_stays s g.laid g.runs g.long (only_stays s g.laid g.runs g.popped.only)
 
-  pub took_top : x.go ≡ true → Took plan spot at index frames s t
-      (record { go = true; key = x.key; at = at; index = index; frames = x.frames })
-  took_top go =
+  pub took_top : {x : Off} → Came plan spot at index frames s t (Some x) → Took plan spot at index frames s t
+      (Some (record { key = x.key; at = at; index = index; frames = x.frames }))
+  took_top g =
+      let off = g.popped.off in
       record {
-        more = λ _. ap₂ (λ (A B : List Thread). A ++ B) (g.popped.more go) (sym same_rest);
-        none = λ z. absurd (true≢false z);
+        taken = record {
+          more = ap₂ (λ (A B : List Thread). A ++ B) off.more (sym (same_rest g));
+          low = off.low;
+          runs = g.runs;
+          most = omega (arith, off.fewer);
+          less = omega (arith, off.fewer);
+        };
         only = g.popped.only;
-        low = g.popped.low;
-        runs = g.runs;
-        most = g.popped.most;
-        less = λ _. omega (arith, g.popped.fewer go);
       }
 
-  pub took_next : x.go ≡ false → index < spot.threads → {key : ℕ}
-      → key ≡ get_or t (spot.active + index) 0
-      → Took plan spot at index frames s t
-      (record { go = true; key = key; at = spot.registers + index * plan.width; index = index + 1; frames = 0 })
+  pub took_next : Came plan spot at index frames s t None → index < spot.threads → {key : ℕ}
+      → key ≡ get_or t (spot.active + index) 0 → Took plan spot at index frames s t
+      (Some (record { key = key; at = spot.registers + index * plan.width; index = index + 1; frames = 0 }))
   unfolding undo
-  took_next stop h {key} there =
+  took_next g h {key} there =
       let z = g.laid.planned in
       let next : ℕ = spot.registers + index * plan.width in
       let same : get_or t (spot.active + index) 0 ≡ get_or s (spot.active + index) 0 =
       g.popped.only.before (spot.active + index) (omega arith) in
       record {
-        more = λ _. ap₂ (λ (A B : List Thread). A ++ B) (g.popped.none stop) (sym same_rest)
-            ∙ rest_one t (laid_len g.long g.laid) g.runs h
-            ∙ ap (λ (k : ℕ). thread_of k (words_at t next plan.width) ∷ rest t plan spot (index + 1)) (sym there);
-        none = λ z. absurd (true≢false z);
+        taken = record {
+          more = ap₂ (λ (A B : List Thread). A ++ B) g.popped.off (sym (same_rest g))
+              ∙ rest_one t (laid_len g.long g.laid) g.runs h
+              ∙ ap (λ (k : ℕ). thread_of k (words_at t next plan.width) ∷ rest t plan spot (index + 1)) (sym there);
+          low = omega (arith, there, same, g.keys.each index h);
+          runs = runs_next s g.laid g.runs h;
+          most = omega arith;
+          less = omega arith;
+        };
         only = g.popped.only;
-        low = omega (arith, there, same, g.keys.each index h);
-        runs = runs_next s g.laid g.runs h;
-        most = omega arith;
-        less = λ _. omega arith;
       }
 
-  pub took_none : x.go ≡ false → spot.threads ≤ index
-      → Took plan spot at index frames s t (record { go = false; key = 0; at = at; index = index; frames = 0 })
-  took_none stop h =
-      let z = g.laid.planned in
+  pub took_none : Came plan spot at index frames s t None → spot.threads ≤ index → Took plan spot at index frames s t None
+  took_none g h =
       record {
-        more = λ z. absurd (true≢false (sym z));
-        none = λ _. ap₂ (λ (A B : List Thread). A ++ B) (g.popped.none stop) (rest_none s g.laid g.runs h);
+        taken = ap₂ (λ (A B : List Thread). A ++ B) g.popped.off (rest_none s g.laid g.runs h);
         only = g.popped.only;
-        low = omega arith;
-        runs = g.runs;
-        most = omega arith;
-        less = λ z. absurd (true≢false (sym z));
       }

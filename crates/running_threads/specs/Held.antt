@@ -1,5 +1,5 @@
 -- Where things lie in a workspace, and what each operation on its words leaves. Definitions only.
-use Rattle.std.specs.Prelude.{◌≡◌, true, false, List, [], ◌∷◌, ◌++◌, ℕ, ◌+◌, ◌*◌, ◌-◌, ◌<◌, ◌≤◌, length, get_or, set}
+use Rattle.std.specs.Prelude.{◌≡◌, Option, MatchOption, List, [], ◌∷◌, ◌++◌, ℕ, ◌+◌, ◌*◌, ◌-◌, ◌<◌, ◌≤◌, length, get_or, set}
 use Rattle.meaning.specs.Limits.{position_limit, row_limit}
 use Rattle.machine.specs.Steps.{Thread}
 use Rattle.running_moves.specs.Keys.{keys_of}
@@ -135,24 +135,27 @@ pub record Queued (plan : Plan) (spot : Spot) (at queued key : ℕ) (s t : List 
   pub regs : Only (spot.stored + queued * plan.width) plan.width (set s (spot.queue + queued) key) t
   pub mine : words_at t at plan.width ≡ words_at s at plan.width
 
--- The first thread on the stack is taken off, and its registers stand at `at`.
-pub record Popped (plan : Plan) (at frames : ℕ) (s t : List ℕ) (x : Off) : Type 0 where
-  pub more : x.go ≡ true
-      → stacked s plan at frames ≡ thread_of x.key (words_at t at plan.width) ∷ stacked t plan at x.frames
-  pub none : x.go ≡ false → stacked s plan at frames ≡ []
-  pub only : Only at plan.width s t
+-- A thread came off the stack, and its registers stand at `at`.
+pub record CameOff (plan : Plan) (at frames : ℕ) (s t : List ℕ) (x : Off) : Type 0 where
+  pub more : stacked s plan at frames ≡ thread_of x.key (words_at t at plan.width) ∷ stacked t plan at x.frames
   pub low : x.key < plan.keys
-  pub fewer : x.go ≡ true → x.frames < frames
-  pub most : x.frames ≤ frames
+  pub fewer : x.frames < frames
 
--- The first active thread is taken, from the stack or else from those of this position.
-pub record Took (plan : Plan) (spot : Spot) (at index frames : ℕ) (s t : List ℕ) (x : Taken) : Type 0 where
-  pub more : x.go ≡ true
-      → stacked s plan at frames ++ rest s plan spot index ≡ thread_of x.key (words_at t x.at plan.width) ∷
-      (stacked t plan x.at x.frames ++ rest t plan spot x.index)
-  pub none : x.go ≡ false → stacked s plan at frames ++ rest s plan spot index ≡ []
+-- The first thread on the stack is taken off, if there is one.
+pub record Popped (plan : Plan) (at frames : ℕ) (s t : List ℕ) (x : Option Off) : Type 0 where
+  pub off : MatchOption x (stacked s plan at frames ≡ []) (CameOff plan at frames s t)
   pub only : Only at plan.width s t
+
+-- A thread is taken, from the stack or else from those of this position.
+pub record TookOne (plan : Plan) (spot : Spot) (at index frames : ℕ) (s t : List ℕ) (x : Taken) : Type 0 where
+  pub more : stacked s plan at frames ++ rest s plan spot index ≡ thread_of x.key (words_at t x.at plan.width) ∷
+      (stacked t plan x.at x.frames ++ rest t plan spot x.index)
   pub low : x.key < plan.keys
   pub runs : Runs plan spot x.at x.index
   pub most : x.frames ≤ frames
-  pub less : x.go ≡ true → x.frames + (spot.threads - x.index) < frames + (spot.threads - index)
+  pub less : x.frames + (spot.threads - x.index) < frames + (spot.threads - index)
+
+-- The first active thread is taken, if there is one.
+pub record Took (plan : Plan) (spot : Spot) (at index frames : ℕ) (s t : List ℕ) (x : Option Taken) : Type 0 where
+  pub taken : MatchOption x (stacked s plan at frames ++ rest s plan spot index ≡ []) (TookOne plan spot at index frames s t)
+  pub only : Only at plan.width s t

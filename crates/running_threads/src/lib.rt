@@ -40,28 +40,20 @@ pub struct Spot {
     pub stored: usize,
 }
 
-// A frame that was taken off the stack, if `go`.
+// A thread that was taken off the stack: its key, and how many frames are left.
 #[derive(Clone, Copy)]
 pub struct Off {
-    pub go: bool,
     pub key: usize,
     pub frames: usize,
 }
 
-// The first active thread, if `go`: its key and where its registers are, with what is left: threads from index on, and frames.
+// The first active thread: its key and where its registers are, with what is left: threads from index on, and frames.
 #[derive(Clone, Copy)]
 pub struct Taken {
-    pub go: bool,
     pub key: usize,
     pub at: usize,
     pub index: usize,
     pub frames: usize,
-}
-
-pub fn wide(x: u32) -> usize
-    ensures { (result ≡ x) × (result < word_limit) }
-{
-    x as usize
 }
 
 // A key on top of the frames: a thread with the registers as they are.
@@ -69,8 +61,7 @@ pub fn push(work: &mut [u32], plan: Plan, frames: usize, key: usize)
     requires { (plan.tags + frames < length work.old) × (key < word_limit) }
     ensures { work.new ≡ set work.old (plan.tags + frames) key }
 {
-    let tags = plan.tags;
-    work[tags + frames] = key as u32;
+    work[plan.tags + frames] = key as u32;
 }
 
 // A register at `at` gets a value. A frame on top of the others keeps what it was, for the threads below.
@@ -78,11 +69,8 @@ pub fn write(work: &mut [u32], plan: Plan, at: usize, frames: usize, register: u
     requires { Stack plan at frames work.old × (frames < plan.depth) × (register < plan.width) }
     ensures { Wrote plan at frames register value work.old work.new }
 {
-    let tags = plan.tags;
-    let olds = plan.olds;
-    let keys = plan.keys;
-    work[tags + frames] = (keys + register) as u32;
-    work[olds + frames] = work[at + register];
+    work[plan.tags + frames] = (plan.keys + register) as u32;
+    work[plan.olds + frames] = work[at + register];
     work[at + register] = value;
 }
 
@@ -91,37 +79,31 @@ pub fn wipe(work: &mut [u32], plan: Plan, at: usize, frames: usize, from: usize,
     requires { Stack plan at frames work.old × (frames + (to - from) ≤ plan.depth) × (to ≤ plan.width) }
     ensures { Wiped plan at frames from (to - from) work.old work.new result }
 {
-    let mut register = from;
     let mut top = frames;
-    while register < to {
+    for register in from..to {
         write(work, plan, at, top, register, NOWHERE);
-        register += 1;
         top += 1;
     }
     top
 }
 
-// The words at `from` also stand at `to`.
+// The words at `from` also stand at `to`. By a loop: with `copy_within` the engine was measured slower.
 pub fn copy(work: &mut [u32], from: usize, to: usize, count: usize)
     requires { (from + count ≤ length work.old) × (to + count ≤ length work.old) × Clear from count to count }
     ensures { Pasted from to count work.old work.new }
 {
-    let mut i: usize = 0;
-    while i < count {
+    for i in 0..count {
         work[to + i] = work[from + i];
-        i += 1;
     }
 }
 
-// Each of the words at `from` becomes the value.
+// Each of the words at `from` becomes the value. By a loop: with `fill` a call that executes few rows was measured slower.
 pub fn spread(work: &mut [u32], from: usize, count: usize, value: u32)
     requires { from + count ≤ length work.old }
     ensures { Spread from count value work.old work.new }
 {
-    let mut i: usize = 0;
-    while i < count {
+    for i in 0..count {
         work[from + i] = value;
-        i += 1;
     }
 }
 
@@ -131,11 +113,8 @@ pub fn queue(work: &mut [u32], plan: Plan, spot: Spot, at: usize, queued: usize,
     requires clear { Clear at plan.width spot.stored plan.depth × (queued < plan.keys) × (key < word_limit) }
     ensures { Queued plan spot at queued key work.old work.new }
 {
-    let keys = spot.queue;
-    let stored = spot.stored;
-    let width = plan.width;
-    work[keys + queued] = key as u32;
-    copy(work, at, stored + queued * width, width);
+    work[spot.queue + queued] = key as u32;
+    copy(work, at, spot.stored + queued * plan.width, plan.width);
 }
 
 // The register of a frame gets its old value back.
@@ -143,38 +122,28 @@ fn put_back(work: &mut [u32], plan: Plan, at: usize, frame: usize, register: usi
     requires { (plan.olds + frame < length work.old) × (at + register < length work.old) }
     ensures { work.new ≡ put_back work.old plan at frame register }
 {
-    let olds = plan.olds;
-    work[at + register] = work[olds + frame];
+    work[at + register] = work[plan.olds + frame];
 }
 
-// The first thread on the stack, with the registers at `at` put back to what they were for it.
-pub fn pop(work: &mut [u32], plan: Plan, at: usize, frames: usize) -> Off
+// The first thread on the stack, if there is one, with the registers at `at` put back to what they were for it.
+pub fn pop(work: &mut [u32], plan: Plan, at: usize, frames: usize) -> Option<Off>
     requires { Stack plan at frames work.old }
     ensures { Popped plan at frames work.old work.new result }
 {
-    let tags = plan.tags;
-    let keys = plan.keys;
-    let mut top = frames;
-    while 0 < top {
-        top -= 1;
-        let tag = wide(work[tags + top]);
-        if tag < keys {
-            return Off {
-                go: true,
+    for top in (0..frames).rev() {
+        let tag = work[plan.tags + top] as usize;
+        if tag < plan.keys {
+            return Some(Off {
                 key: tag,
                 frames: top,
-            };
+            });
         }
-        put_back(work, plan, at, top, tag - keys);
+        put_back(work, plan, at, top, tag - plan.keys);
     }
-    Off {
-        go: false,
-        key: 0,
-        frames: 0,
-    }
+    None
 }
 
-// The first active thread: the first on the stack, or else the next of this position.
+// The first active thread, if there is one: the first on the stack, or else the next of this position.
 pub fn take(
     work: &mut [u32],
     plan: Plan,
@@ -182,39 +151,26 @@ pub fn take(
     at: usize,
     index: usize,
     frames: usize,
-) -> Taken
+) -> Option<Taken>
     requires laid { Laid plan spot (length work.old) × Runs plan spot at index × (frames ≤ plan.depth) }
     requires tags { Tags work.old plan frames × Below work.old spot.active spot.threads plan.keys }
     ensures { Took plan spot at index frames work.old work.new result }
 {
-    let top = pop(work, plan, at, frames);
-    if top.go {
-        return Taken {
-            go: true,
+    if let Some(top) = pop(work, plan, at, frames) {
+        return Some(Taken {
             key: top.key,
-            at: at,
-            index: index,
+            at,
+            index,
             frames: top.frames,
-        };
+        });
     }
-    let active = spot.active;
-    let registers = spot.registers;
-    let threads = spot.threads;
-    let width = plan.width;
-    if index < threads {
-        return Taken {
-            go: true,
-            key: wide(work[active + index]),
-            at: registers + index * width,
-            index: index + 1,
-            frames: 0,
-        };
+    if index == spot.threads {
+        return None;
     }
-    Taken {
-        go: false,
-        key: 0,
-        at: at,
-        index: index,
+    Some(Taken {
+        key: work[spot.active + index] as usize,
+        at: spot.registers + index * plan.width,
+        index: index + 1,
         frames: 0,
-    }
+    })
 }

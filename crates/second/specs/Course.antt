@@ -18,11 +18,12 @@ use Rattle.running_settle.specs.Marks.{fresh_all, seen_none}
 use Rattle.second.specs.Plain.{choice, Memory, nothing, Search.searching, result_of, count_of, beginning}
 use Rattle.second.specs.Follows.{Leads, leads_here, leads_one, leads_on}
 use Rattle.second.specs.Agrees.{is_run}
-use Rattle.second.specs.Held.{tried_mark, marks_at, choice_at, Laid, Serves, LayoutOf, own, search_of, Marks}
+use Rattle.second.specs.Held.{going_of, found_of, tried_mark, marks_at, choice_at, Laid, Serves, LayoutOf, own, search_of, Marks}
 use Rattle.second.specs.Held.{unmarked, Standing, Attempted, second_of, Ran, choices_in}
 use Rattle.second.specs.Choices.{choice_order}
 use Rattle.second.specs.Marked.{marks_fit, marks_room}
 use Rattle.second.specs.declared.Layout.{Layout}
+use Rattle.second.specs.declared.State.TheVariants.{Runs}
 use Rattle.second.specs.declared.Trial.{Trial}
 
 -- ---- the layout
@@ -93,7 +94,7 @@ pub record Course (code text : List ℕ) (l : Layout) (start row : ℕ) (s₀ s 
 -- Where it begins: no mark, registers all -1, and one thread with the flag set.
 abbrev pub first_trial : ℕ → ℕ → Trial
 first_trial start row =
-    record { going = true; found = false; key = key_number row 1; position = start; stored = 0; count = 0 }
+    record { state = Runs; key = key_number row 1; position = start; stored = 0; count = 0 }
 
 map_unset : (w : ℕ) → map reg_of (replicate w nowhere) ≡ replicate w none
 map_unset zero = refl
@@ -161,15 +162,15 @@ course_next {code} {text} c e a =
 
 -- The end: the search that the words stand for is the run's.
 module _ {code text : List ℕ} {l : Layout} {start row : ℕ} {s₀ s : List ℕ} {x : Trial} (b : Begins code text l start row)
-    (c : Course code text l start row s₀ s x) (stops : x.going ≡ false) where
-  is_last : second_of code text start row ≡ searching [] c.tried (best_of x.found (own s l) none) x.count
+    (c : Course code text l start row s₀ s x) (stops : going_of x.state ≡ false) where
+  is_last : second_of code text start row ≡ searching [] c.tried (best_of (found_of x.state) (own s l) none) x.count
   is_last =
       let e = rows_in_length code (rows_said code) 0 in
       is_run (decode code) b.ready.rows (text_of text) start row (omega (arith, b.low)) b.within
       (subst (Leads (moves_of code text) (beginning (decode code) start row)) (rw stops) c.got) tt
 
   -- found: the registers of the thread that won
-  pub last_found : {s₁ : List ℕ} → ((i : ℕ) → choice_at l l.marks ≤ i → get_or s₀ i 0 ≡ get_or s₁ i 0) → x.found ≡ true
+  pub last_found : {s₁ : List ℕ} → ((i : ℕ) → choice_at l l.marks ≤ i → get_or s₀ i 0 ≡ get_or s₁ i 0) → found_of x.state ≡ true
       → Ran code text l start row s₁ s x
   last_found old f = record {
     result = ap result_of is_last;
@@ -179,7 +180,7 @@ module _ {code text : List ℕ} {l : Layout} {start row : ℕ} {s₀ s : List �
   }
 
   -- none: the registers are all -1 then
-  pub last_none : {s₁ t : List ℕ} → ((i : ℕ) → choice_at l l.marks ≤ i → get_or s₀ i 0 ≡ get_or s₁ i 0) → x.found ≡ false
+  pub last_none : {s₁ t : List ℕ} → ((i : ℕ) → choice_at l l.marks ≤ i → get_or s₀ i 0 ≡ get_or s₁ i 0) → found_of x.state ≡ false
       → length t ≡ length s → Spread l.marks l.width nowhere s t
       → Ran code text l start row s₁ t x
   last_none {t = t} old f e p =

@@ -13,7 +13,21 @@ use Rattle.running_threads.specs.Threads.{nowhere, reg_of, wipe, Seen}
 use Rattle.running_settle.specs.Moved.{wins, best_of, moves_of}
 use Rattle.second.specs.Plain.{Choice, choice, Memory, Search, Search.searching, try_one, result_of, count_of, second_run}
 use Rattle.second.specs.declared.Layout.{Layout}
+use Rattle.second.specs.declared.State.{State}
+use Rattle.second.specs.declared.State.TheVariants.{Runs, Won, Ended}
 use Rattle.second.specs.declared.Trial.{Trial}
+
+-- ---- how a search stands
+
+abbrev pub going_of : State → Bool
+going_of Runs = true
+going_of Won = false
+going_of Ended = false
+
+abbrev pub found_of : State → Bool
+found_of Runs = false
+found_of Won = true
+found_of Ended = false
 
 -- ---- where things lie
 
@@ -75,11 +89,11 @@ while_going false t cs = []
 
 abbrev pub choices_of : List ℕ → Layout → Trial → List Choice
 choices_of s l x =
-    while_going x.going (choice_of x.position x.key (own s l)) (choices_in s l x.stored)
+    while_going (going_of x.state) (choice_of x.position x.key (own s l)) (choices_in s l x.stored)
 
 -- The search that the words stand for, where something was tried.
 abbrev pub search_of : List ℕ → Layout → Trial → Memory → Search
-search_of s l x tried = searching (choices_of s l x) tried (best_of x.found (own s l) none) x.count
+search_of s l x tried = searching (choices_of s l x) tried (best_of (found_of x.state) (own s l) none) x.count
 
 -- The marks say what was tried.
 pub record Marks (s : List ℕ) (l : Layout) (tried : Memory) : Type 0 where
@@ -123,8 +137,8 @@ pub record Going (l : Layout) (x : Trial) (s : List ℕ) : Type 0 where
   pub position : x.position ≤ l.length
   pub few : x.stored ≤ l.marks
   pub sound : Sound s l x.stored
-  pub going : x.going ≡ true
-  pub quiet : x.found ≡ false
+  pub going : going_of x.state ≡ true
+  pub quiet : found_of x.state ≡ false
 
 -- A choice more is stored; marks and registers stay, and words behind all choices.
 pub record Stored (l : Layout) (x : Trial) (k : ℕ) (s t : List ℕ) : Type 0 where
@@ -149,15 +163,15 @@ alive false = 0
 -- A move was made.
 pub record Went (l : Layout) (mv : Doing) (x : Trial) (s t : List ℕ) (y : Trial) : Type 0 where
   pub choices : choices_of t l y ≡ goes_to x.position mv (own s l) (choices_in s l x.stored)
-  pub found : y.found ≡ wins mv
-  pub quiet : y.going ≡ true → y.found ≡ false
-  pub words : y.found ≡ true → own t l ≡ own s l
+  pub found : found_of y.state ≡ wins mv
+  pub quiet : going_of y.state ≡ true → found_of y.state ≡ false
+  pub words : found_of y.state ≡ true → own t l ≡ own s l
   pub count : y.count ≡ x.count
   pub key : y.key < keys_of l.rows
   pub position : y.position ≤ l.length
   pub sound : Sound t l y.stored
   pub few : y.stored ≤ x.stored + 1
-  pub less : mv ≡ Lose → y.stored + alive y.going ≤ x.stored
+  pub less : mv ≡ Lose → y.stored + alive (going_of y.state) ≤ x.stored
   pub marks : (i : ℕ) → i < l.marks → get_or t i 0 ≡ get_or s i 0
   pub tail : (i : ℕ) → choice_at l l.marks ≤ i → get_or t i 0 ≡ get_or s i 0
 
@@ -171,11 +185,11 @@ pub record Standing (l : Layout) (x : Trial) (s : List ℕ) : Type 0 where
   pub sound : Sound s l x.stored
   pub few : x.stored + unmarked s l ≤ l.marks
   pub spent : x.count + unmarked s l ≡ l.marks
-  pub quiet : x.going ≡ true → x.found ≡ false
+  pub quiet : going_of x.state ≡ true → found_of x.state ≡ false
 
 -- What is left to do.
 abbrev pub to_do : Layout → Trial → List ℕ → ℕ
-to_do l x s = unmarked s l + unmarked s l + (x.stored + alive x.going)
+to_do l x s = unmarked s l + unmarked s l + (x.stored + alive (going_of x.state))
 
 -- One step, on the words.
 pub record Attempted (code text : List ℕ) (l : Layout) (x : Trial) (s t : List ℕ) (y : Trial) : Type 0 where
@@ -192,7 +206,7 @@ second_of code text start row = second_run (text_of text) (decode code) start ro
 
 -- What it answers; words behind those that it needs stay.
 pub record Ran (code text : List ℕ) (l : Layout) (start row : ℕ) (s t : List ℕ) (x : Trial) : Type 0 where
-  pub result : result_of (second_of code text start row) ≡ best_of x.found (own t l) none
-  pub unset : x.found ≡ false → own t l ≡ replicate l.width nowhere
+  pub result : result_of (second_of code text start row) ≡ best_of (found_of x.state) (own t l) none
+  pub unset : found_of x.state ≡ false → own t l ≡ replicate l.width nowhere
   pub count : count_of (second_of code text start row) ≡ x.count
   pub tail : (i : ℕ) → choice_at l l.marks ≤ i → get_or t i 0 ≡ get_or s i 0

@@ -1,5 +1,5 @@
 -- What each move leaves, on the words.
-use Rattle.std.specs.Prelude.{◌≡◌, refl, true, false, ℕ, suc, ◌+◌, ◌<◌, ◌≤◌, length, get_or, set}
+use Rattle.std.specs.Prelude.{◌≡◌, refl, false, ℕ, suc, ◌+◌, ◌<◌, ◌≤◌, length, get_or, set}
 use Rattle.std.proofs.Common.{sym, ap, ◌∙◌, subst, true≢false, add-one, arith, length-set, get_or-set_other}
 use Rattle.std.proofs.Math.Path.{ap₂}
 use Rattle.std.proofs.lemmas.Bool.{false≢true}
@@ -16,6 +16,7 @@ use Rattle.second.specs.Held.{choice_at, own, choice_of, choices_in, goes_to, Go
 use Rattle.second.specs.Held.{Stored, Wiped, Went}
 use Rattle.second.specs.Choices.{choice_before, choice_order, choices_same, sound_same, sound_less, choice_fits}
 use Rattle.second.specs.declared.Layout.{Layout}
+use Rattle.second.specs.declared.State.TheVariants.{Won, Ended}
 use Rattle.second.specs.declared.Trial.{Trial}
 
 -- What holds of a move holds of one that it equals.
@@ -38,7 +39,7 @@ module _ {l : Layout} {x : Trial} {s : List ℕ} (g : Going l x s) where
         → (mv ≡ Lose → ⊥) → choice_of p k (own t l) ∷ choices_in s l x.stored
         ≡ goes_to x.position mv (own s l) (choices_in s l x.stored)
         → Went l mv x s t
-        (record { going = x.going; found = x.found; key = k; position = p; stored = x.stored; count = x.count })
+        (record { state = x.state; key = k; position = p; stored = x.stored; count = x.count })
     goes mv k p low high stops none choices = record {
       choices = rw (g.going, same_choices) choices;
       found = g.quiet ∙ sym stops;
@@ -56,7 +57,7 @@ module _ {l : Layout} {x : Trial} {s : List ℕ} (g : Going l x s) where
 
   -- Accept ends the search.
   pub does_win : Went l Win x s s
-      (record { going = false; found = true; key = x.key; position = x.position; stored = x.stored; count = x.count })
+      (record { state = Won; key = x.key; position = x.position; stored = x.stored; count = x.count })
   does_win = record {
     choices = refl;
     found = refl;
@@ -74,12 +75,12 @@ module _ {l : Layout} {x : Trial} {s : List ℕ} (g : Going l x s) where
 
   -- No choice is left.
   pub does_end : x.stored ≡ 0 → Went l Lose x s s
-      (record { going = false; found = x.found; key = x.key; position = x.position; stored = x.stored; count = x.count })
+      (record { state = Ended; key = x.key; position = x.position; stored = x.stored; count = x.count })
   unfolding choices_in
   does_end z = record {
     choices = rw z;
-    found = g.quiet;
-    quiet = λ y. g.quiet;
+    found = refl;
+    quiet = λ y. refl;
     words = λ y. refl;
     count = refl;
     key = g.key;
@@ -104,7 +105,7 @@ module _ {l : Layout} {x : Trial} {s : List ℕ} (g : Going l x s) where
         (choices_same s t l n e (omega arith) (λ i lo hi. c.only.after i lo))
 
     pub does_back : Went l Lose x s t
-        (record { going = x.going; found = x.found; key = k; position = p; stored = n; count = x.count })
+        (record { state = x.state; key = k; position = p; stored = n; count = x.count })
     does_back =
         let each = g.sound.each n (omega arith) in
         record {
@@ -123,17 +124,17 @@ module _ {l : Layout} {x : Trial} {s : List ℕ} (g : Going l x s) where
         }
 
   pub does_eat : {k : ℕ} → k < keys_of l.rows → x.position < l.length → Went l (Eat k) x s s
-      (record { going = x.going; found = x.found; key = k; position = x.position + 1; stored = x.stored; count = x.count })
+      (record { state = x.state; key = k; position = x.position + 1; stored = x.stored; count = x.count })
   does_eat {k} low ahead = goes s refl (λ i h. refl) (λ i h. refl) (Eat k) k (x.position + 1) low (omega arith) refl
       (λ z. let y : ◌≡◌ {A = ℕ} 0 1 = cc in omega arith) refl
 
   pub does_on : {k : ℕ} → k < keys_of l.rows → Went l (On k) x s s
-      (record { going = x.going; found = x.found; key = k; position = x.position; stored = x.stored; count = x.count })
+      (record { state = x.state; key = k; position = x.position; stored = x.stored; count = x.count })
   does_on {k} low = goes s refl (λ i h. refl) (λ i h. refl) (On k) k x.position low g.position refl
       (λ z. let y : ◌≡◌ {A = ℕ} 0 1 = cc in omega arith) refl
 
   pub does_write : {r k : ℕ} → r < l.width → k < keys_of l.rows → Went l (Write r k) x s (set s (l.marks + r) x.position)
-      (record { going = x.going; found = x.found; key = k; position = x.position; stored = x.stored; count = x.count })
+      (record { state = x.state; key = k; position = x.position; stored = x.stored; count = x.count })
   does_write {r} {k} inside low =
       goes (set s (l.marks + r) x.position) (length-set s (l.marks + r) x.position)
       (λ i h. get_or-set_other s (l.marks + r) i x.position 0 (λ z. omega arith))
@@ -144,7 +145,7 @@ module _ {l : Layout} {x : Trial} {s : List ℕ} (g : Going l x s) where
 
   pub does_wipe : {from to k : ℕ} {t : List ℕ} → length t ≡ length s → k < keys_of l.rows → Wiped l from to s t
       → Went l (Wipe from to k) x s t
-      (record { going = x.going; found = x.found; key = k; position = x.position; stored = x.stored; count = x.count })
+      (record { state = x.state; key = k; position = x.position; stored = x.stored; count = x.count })
   does_wipe {from} {to} {k} {t} e low w =
       goes t e w.before w.after (Wipe from to k) k x.position low g.position refl
       (λ z. let y : ◌≡◌ {A = ℕ} 0 1 = cc in omega arith)
@@ -154,8 +155,7 @@ module _ {l : Layout} {x : Trial} {s : List ℕ} (g : Going l x s) where
   pub does_both : {first second : ℕ} {t : List ℕ} → x.stored < l.marks → length t ≡ length s → first < keys_of l.rows
       → second < keys_of l.rows → Stored l x second s t → Went l (Both first second) x s t
       (record {
-        going = x.going;
-        found = x.found;
+        state = x.state;
         key = first;
         position = x.position;
         stored = x.stored + 1;

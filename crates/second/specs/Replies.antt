@@ -6,9 +6,7 @@ use Rattle.meaning.specs.Refusals as No
 use Rattle.meaning.specs.Grounds.{Ground, ground, first_of}
 use Rattle.machine.specs.Words.{rows_said, groups_said, code_passes}
 use Rattle.machine.specs.Replies.{Reply, Lent, lent_by, reply_to, registers_from}
-use Rattle.engine.specs.Answers.{reply_of, executed}
-use Rattle.engine.specs.declared.Answer.{Answer}
-use Rattle.engine.specs.declared.Answer.TheVariants.{Refused}
+use Rattle.engine.specs.Answers.{Answer, Refused, reply_of, executed}
 use Rattle.second.specs.Plain.{Search, result_of, count_of}
 use Rattle.second.specs.Held.{second_of}
 

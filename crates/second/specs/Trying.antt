@@ -14,7 +14,7 @@ use Rattle.running_threads.specs.Laws.{words_below}
 use Rattle.running_settle.specs.Moved.{wins, best_of, moves_of}
 use Rattle.running_settle.specs.Marks.{fresh_same, fresh_mark}
 use Rattle.second.specs.Plain.{Choice, Memory, remembered, Search.searching, try_one}
-use Rattle.second.specs.Held.{tried_mark, Laid, Serves, own, choices_in, choices_of, search_of, Marks}
+use Rattle.second.specs.Held.{going_of, found_of, tried_mark, Laid, Serves, own, choices_in, choices_of, search_of, Marks}
 use Rattle.second.specs.Held.{unmarked, goes_to, Ahead, Going, alive, Went, Standing, Attempted}
 use Rattle.second.specs.Choices.{choice_order, choices_same, sound_same}
 use Rattle.second.specs.Marked.{doing, row_does, ahead, mark_at, mark_low, marks_room, mark_tells, marks_more}
@@ -25,7 +25,7 @@ use Rattle.second.specs.declared.Trial.{Trial}
 -- ---- a step
 
 -- What holds of a thread that runs.
-pub runs : {l : Layout} {x : Trial} {s : List ℕ} → Standing l x s → x.going ≡ true → Going l x s
+pub runs : {l : Layout} {x : Trial} {s : List ℕ} → Standing l x s → going_of x.state ≡ true → Going l x s
 runs a going = record {
   laid = a.laid;
   key = a.key;
@@ -52,8 +52,7 @@ alive_one false = omega arith
 -- A trial in which one row more was executed.
 abbrev pub counted : Trial → Trial
 counted x = record {
-  going = x.going;
-  found = x.found;
+  state = x.state;
   key = x.key;
   position = x.position;
   stored = x.stored;
@@ -65,7 +64,7 @@ abbrev pub its_mark : Layout → Trial → ℕ
 its_mark l x = mark_at l x.position x.key
 
 -- A row and flag tried before at its position ends the thread, uncounted.
-pub tried_before : (code text : List ℕ) {l : Layout} {x : Trial} {s t : List ℕ} {y : Trial} → Standing l x s → x.going ≡ true
+pub tried_before : (code text : List ℕ) {l : Layout} {x : Trial} {s t : List ℕ} {y : Trial} → Standing l x s → going_of x.state ≡ true
     → get_or s (its_mark l x) 0 ≡ tried_mark → Went l Lose x s t y → Attempted code text l x s t y
 tried_before code text {l} {x} {s} {t} {y} a going e w =
     let left : unmarked t l ≡ unmarked s l = fresh_same s t tried_mark l.marks w.marks in
@@ -96,7 +95,7 @@ tried_before code text {l} {x} {s} {t} {y} a going e w =
     }
 
 -- Any other is marked, counts one, and does what its row says.
-module _ {l : Layout} {x : Trial} {s : List ℕ} (a : Standing l x s) (going : x.going ≡ true)
+module _ {l : Layout} {x : Trial} {s : List ℕ} (a : Standing l x s) (going : going_of x.state ≡ true)
     (ne : get_or s (its_mark l x) 0 ≡ tried_mark → ⊥) where
   abbrev after_mark : List ℕ
   after_mark = set s (its_mark l x) tried_mark
@@ -161,12 +160,12 @@ module _ {l : Layout} {x : Trial} {s : List ℕ} (a : Standing l x s) (going : x
             (omega (arith, a.position, a.laid.short)) row_low eb ea in
             let choices : goes_to x.position (doing code before after x.key) rs cs ≡ choices_of t l y
             = sym (w.choices ∙ rw (own_kept, choices_kept, e)) in
-            let best : best_of (wins (doing code before after x.key)) rs none ≡ best_of y.found (own t l) none
-            = best_eq (wins (doing code before after x.key)) y.found rs (own t l) (w.found ∙ ap wins e)
+            let best : best_of (wins (doing code before after x.key)) rs none ≡ best_of (found_of y.state) (own t l) none
+            = best_eq (wins (doing code before after x.key)) (found_of y.state) rs (own t l) (w.found ∙ ap wins e)
             (λ z. w.words z ∙ own_kept) in
             rw (going, a.quiet going, new) does
             ∙ ap₂ (λ (us : List Choice) (b : Option Regs). searching us mem b (suc x.count)) choices best
-            ∙ ap (λ (k : ℕ). searching (choices_of t l y) mem (best_of y.found (own t l) none) k) (omega (arith, w.count))
+            ∙ ap (λ (k : ℕ). searching (choices_of t l y) mem (best_of (found_of y.state) (own t l) none) k) (omega (arith, w.count))
 
         pub tried_now : Attempted code text l x s t y
         tried_now =
@@ -181,7 +180,7 @@ module _ {l : Layout} {x : Trial} {s : List ℕ} (a : Standing l x s) (going : x
                 spent = omega (arith, w.count, a.spent, one_less);
                 quiet = w.quiet;
               };
-              less = rw (left, going, ← one_less) (omega (arith, w.few, alive_one y.going));
+              less = rw (left, going, ← one_less) (omega (arith, w.few, alive_one (going_of y.state)));
               tail = λ i h. w.tail i h ∙ other i (omega (arith, choice_order l 0 l.marks (omega arith)));
               one = λ tried m. (
                 remembered tried x.position (key_of x.key),

@@ -10,14 +10,16 @@ ghost use Rattle.machine.specs.Replies.{lend};
 ghost use Rattle.running_moves.specs.Keys.{keys_of};
 ghost use Rattle.running_moves.specs.Chosen.{Ranged};
 ghost use Rattle.running_moves.specs.Ready.{Ready};
+ghost use Rattle.engine.specs.Answers.{answer_of};
+ghost use Rattle.engine.specs.Turned.{refused_by};
 ghost use Rattle.second.specs.Replies.{second_refusal, Seconded};
-ghost use Rattle.second.specs.Held.{choice_at, Laid, Serves, Sound, Stored, Wiped, Ahead, Going, Went, Standing, Attempted};
+ghost use Rattle.second.specs.Held.{going_of, choice_at, Laid, Serves, Sound, Stored, Wiped, Ahead, Going, Went, Standing, Attempted};
 ghost use Rattle.second.specs.Held.{LayoutOf, Ran};
 
 use engine::Answer;
 use machine::{GROUPS, MATCH_ROW, ROWS, SEARCH_ROW};
 use meaning::limits::SECOND_LIMIT;
-use meaning::refusals::{CODE_FAILS, FEW_REGISTERS, LONG_TEXT, SMALL_WORKSPACE, START_BEYOND};
+use meaning::refusals::Refusal;
 use running_moves::{CONSUMED, Move};
 use running_threads::NOWHERE;
 
@@ -38,12 +40,19 @@ pub struct Layout {
     pub marks: usize,
 }
 
-// The thread that runs: its key and its position. Beside it whether the search goes on, whether a thread won, how many choices
-// are stored, and the count of rows executed.
+// How a search stands: a thread runs, one won, or there is none left.
+#[derive(Clone, Copy)]
+pub enum State {
+    Runs,
+    Won,
+    Ended,
+}
+
+// How a search stands; the thread that runs, by its key and its position; how many choices are stored; and the count of rows
+// executed.
 #[derive(Clone, Copy)]
 pub struct Trial {
-    pub going: bool,
-    pub found: bool,
+    pub state: State,
     pub key: usize,
     pub position: usize,
     pub stored: usize,
@@ -75,15 +84,14 @@ fn back(work: &mut [u32], layout: Layout, mut trial: Trial) -> Trial
     requires { Going layout trial work.old }
     ensures { Went layout Move.Lose trial work.old work.new result }
 {
-    let stored = trial.stored;
-    if stored == 0 {
-        trial.going = false;
+    if trial.stored == 0 {
+        trial.state = State::Ended;
         return trial;
     }
-    let at = choice_at(layout, stored - 1);
-    trial.key = running_threads::wide(work[at]);
-    trial.position = running_threads::wide(work[at + 1]);
-    trial.stored = stored - 1;
+    trial.stored -= 1;
+    let at = choice_at(layout, trial.stored);
+    trial.key = work[at] as usize;
+    trial.position = work[at + 1] as usize;
     running_threads::copy(work, at + 2, layout.marks, layout.width);
     trial
 }
@@ -107,8 +115,7 @@ fn follow(work: &mut [u32], layout: Layout, mut trial: Trial, mv: Move) -> Trial
     let position = trial.position;
     match mv {
         Move::Win => {
-            trial.going = false;
-            trial.found = true;
+            trial.state = State::Won;
             trial
         }
         Move::Lose => back(work, layout, trial),
@@ -123,8 +130,7 @@ fn follow(work: &mut [u32], layout: Layout, mut trial: Trial, mv: Move) -> Trial
         }
         Move::Both(first, second) => {
             store(work, layout, trial, second);
-            let stored = trial.stored;
-            trial.stored = stored + 1;
+            trial.stored += 1;
             trial.key = first;
             trial
         }
@@ -145,7 +151,7 @@ fn follow(work: &mut [u32], layout: Layout, mut trial: Trial, mv: Move) -> Trial
 // says.
 fn attempt(code: &[u32], text: &[u8], work: &mut [u32], layout: Layout, mut trial: Trial) -> Trial
     requires ready { Ready code.now × Serves code.now text.now layout }
-    requires standing { Standing layout trial work.old × (trial.going ≡ true) }
+    requires standing { Standing layout trial work.old × (going_of trial.state ≡ true) }
     ensures { Attempted code.now text.now layout trial work.old work.new result }
 {
     let key = trial.key;
@@ -155,8 +161,7 @@ fn attempt(code: &[u32], text: &[u8], work: &mut [u32], layout: Layout, mut tria
         return back(work, layout, trial);
     }
     work[mark] = TRIED;
-    let count = trial.count;
-    trial.count = count + 1;
+    trial.count += 1;
     let before = running::byte_before(text, position);
     let after = running::byte_after(text, position);
     let mv = running_moves::move_of(code, before, after, key);
@@ -168,11 +173,11 @@ fn layout_of(code: &[u32], length: usize) -> Layout
     requires { Ready code.now × (length ≤ second_limit) }
     ensures { LayoutOf code.now length result }
 {
-    let rows = running_threads::wide(code[ROWS]);
-    let groups = running_threads::wide(code[GROUPS]);
+    let rows = code[ROWS] as usize;
+    let groups = code[GROUPS] as usize;
     Layout {
-        length: length,
-        rows: rows,
+        length,
+        rows,
         width: 2 * (groups + 1),
         marks: (length + 1) * (rows * 2),
     }
@@ -194,44 +199,37 @@ fn run(
     running_threads::spread(work, 0, layout.marks, UNTRIED);
     running_threads::spread(work, layout.marks, layout.width, NOWHERE);
     let mut trial = Trial {
-        going: true,
-        found: false,
+        state: State::Runs,
         key: row * 2 + CONSUMED,
         position: start,
         stored: 0,
         count: 0,
     };
-    while trial.going {
+    while let State::Runs = trial.state {
         trial = attempt(code, text, work, layout, trial);
     }
-    if !trial.found {
+    if let State::Ended = trial.state {
         running_threads::spread(work, layout.marks, layout.width, NOWHERE);
     }
     trial
 }
 
-// The number by which a run is turned away, the first in order that holds; 0 if it is not.
-fn turned_away(code: &[u32], text: &[u8], start: usize, registers: usize, workspace: usize) -> u32
-    ensures { result ≡ second_refusal code.now (lend text.now start registers workspace) }
+// Whether a run is turned away, and why: the first ground in order that holds.
+fn turned_away(
+    code: &[u32],
+    text: &[u8],
+    start: usize,
+    registers: usize,
+    workspace: usize,
+) -> Result<(), Refusal>
+    ensures { refused_by result ≡ second_refusal code.now (lend text.now start registers workspace) }
 {
-    if !code_check::check(code) {
-        return CODE_FAILS;
+    let sizes = engine::sizes_of(code, text, start, registers, SECOND_LIMIT)?;
+    let row = 4 * sizes.groups + 10;
+    if workspace < sizes.rows * row * (text.len() + 1) + 2 * (sizes.groups + 1) {
+        return Err(Refusal::SmallWorkspace);
     }
-    if text.len() > SECOND_LIMIT {
-        return LONG_TEXT;
-    }
-    if start > text.len() {
-        return START_BEYOND;
-    }
-    let n = running_threads::wide(code[ROWS]);
-    let g = running_threads::wide(code[GROUPS]);
-    if registers < 2 * (g + 1) {
-        return FEW_REGISTERS;
-    }
-    if workspace < n * (4 * g + 10) * (text.len() + 1) + 2 * (g + 1) {
-        return SMALL_WORKSPACE;
-    }
-    0
+    Ok(())
 }
 
 // The answer to a call that begins at a row.
@@ -242,22 +240,20 @@ fn reply_from(
     row: usize,
     registers: &mut [i32],
     workspace: &mut [u32],
-) -> Answer
+) -> Result<Answer, Refusal>
     requires { row < least_rows }
     ensures { Seconded code.now text.now start row registers.old
-        workspace.old result registers.new workspace.new }
+        workspace.old (answer_of result) registers.new workspace.new }
 {
-    let number = turned_away(code, text, start, registers.len(), workspace.len());
-    if number != 0 {
-        return Answer::Refused(number);
-    }
+    turned_away(code, text, start, registers.len(), workspace.len())?;
     let layout = layout_of(code, text.len());
     let trial = run(code, text, workspace, layout, start, row);
     engine::copy_out(registers, workspace, layout.marks, layout.width);
-    if trial.found {
-        return Answer::Found(trial.count);
+    if let State::Won = trial.state {
+        Ok(Answer::Found(trial.count))
+    } else {
+        Ok(Answer::Missing(trial.count))
     }
-    Answer::Missing(trial.count)
 }
 
 // Whether the pattern matches at the start.
@@ -267,9 +263,9 @@ pub fn second_match(
     start: usize,
     registers: &mut [i32],
     workspace: &mut [u32],
-) -> Answer
+) -> Result<Answer, Refusal>
     ensures { Seconded code.now text.now start match_row registers.old
-        workspace.old result registers.new workspace.new }
+        workspace.old (answer_of result) registers.new workspace.new }
 {
     reply_from(code, text, start, MATCH_ROW, registers, workspace)
 }
@@ -281,9 +277,9 @@ pub fn second_search(
     start: usize,
     registers: &mut [i32],
     workspace: &mut [u32],
-) -> Answer
+) -> Result<Answer, Refusal>
     ensures { Seconded code.now text.now start search_row registers.old
-        workspace.old result registers.new workspace.new }
+        workspace.old (answer_of result) registers.new workspace.new }
 {
     reply_from(code, text, start, SEARCH_ROW, registers, workspace)
 }

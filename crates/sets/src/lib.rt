@@ -1,7 +1,7 @@
 // Sets of bytes: 256 bits in eight words. Each contract says which bytes the answer holds, for all 256 at once.
 #![tactic(auto)]
 
-ghost use Rattle.std.specs.Prelude.{◌≡◌, true, false, not, ◌||◌, ◌<◌, eqb};
+ghost use Rattle.std.specs.Prelude.{◌≡◌, true, false, not, ◌||◌, ◌<◌, ◌≤◌, length, eqb};
 ghost use Rattle.sets.specs.Sets.{Holds, has, same_bytes, between, is_dot, in_escape};
 
 // The set of no byte.
@@ -18,13 +18,21 @@ pub fn all() -> [u32; 8]
     [!0u32; 8]
 }
 
+// Whether a byte is in a set: bit b mod 32 of word b div 32. No other routine tests one bit.
+pub fn has(set: &[u32], b: u32) -> bool
+    requires { (8 ≤ length set.now) × (b < 256) }
+    ensures { result ≡ has set.now b }
+{
+    set[b as usize / 32] >> (b % 32) & 1 == 1
+}
+
 // A set with one byte more.
 pub fn with(set: [u32; 8], b: u8) -> [u32; 8]
     ensures { Holds result (λ x. has set x || eqb x b) }
 {
     let mut r = set;
     let i = (b / 32) as usize;
-    r[i] = r[i] | 1 << (b % 32) as u32;
+    r[i] |= 1 << (b % 32);
     r
 }
 
@@ -40,11 +48,9 @@ pub fn range(first: u8, last: u8) -> [u32; 8]
     ensures { Holds result (between first last) }
 {
     let mut r = none();
-    let mut b = first as usize;
-    while b <= last as usize {
-        let n = with(r, b as u8);
-        r = n;
-        b += 1;
+    for b in first..=last {
+        let more = with(r, b);
+        r = more;
     }
     r
 }
@@ -53,8 +59,9 @@ pub fn range(first: u8, last: u8) -> [u32; 8]
 pub fn union(a: [u32; 8], b: [u32; 8]) -> [u32; 8]
     ensures { Holds result (λ x. has a x || has b x) }
 {
+    // By index: what a closure given to array::from_fn answers was not found by the proof.
     let mut r = [0u32; 8];
-    for i in 0..8usize {
+    for i in 0..8 {
         r[i] = a[i] | b[i];
     }
     r
@@ -64,8 +71,9 @@ pub fn union(a: [u32; 8], b: [u32; 8]) -> [u32; 8]
 pub fn complement(a: [u32; 8]) -> [u32; 8]
     ensures { Holds result (λ x. not (has a x)) }
 {
+    // By index: what a closure given to map answers was not found by the proof.
     let mut r = [0u32; 8];
-    for j in 0..8usize {
+    for j in 0..8 {
         r[j] = !a[j];
     }
     r
@@ -75,12 +83,7 @@ pub fn complement(a: [u32; 8]) -> [u32; 8]
 pub fn same(a: [u32; 8], b: [u32; 8]) -> bool
     ensures { result ≡ same_bytes a b }
 {
-    for k in 0..8usize {
-        if a[k] != b[k] {
-            return false;
-        }
-    }
-    true
+    a == b
 }
 
 // The digits, in word 1.

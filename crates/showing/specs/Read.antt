@@ -25,7 +25,7 @@ use Rattle.reading_grammar.specs.Grammar.{Sort, Rule, Derives}
 use Rattle.reading_grammar.proofs.Complete.{complete}
 use Rattle.tidying.specs.Held.{table_of}
 use Rattle.compiler.specs.Compiling.{plain, compilation, table_at}
-use Rattle.compiler.specs.declared.Compilation.TheVariants.{Rows}
+use Rattle.compiler.specs.Compiling.{Compilation.Rows}
 use Rattle.showing_spelling.specs.Texts.{At}
 use Rattle.showing_form.specs.Form.{OfForm, form_of}
 use Rattle.showing_form.specs.Exact.{form_some, some_form}
@@ -33,9 +33,7 @@ use Rattle.showing.specs.Text.{text, depth}
 use Rattle.showing.specs.Low.{text_low, low_at}
 use Rattle.showing.specs.Firsts.{Free}
 use Rattle.showing.specs.Written.{Fits, written_derives}
-use Rattle.showing.specs.Shown.{large, answer_for, room_for, showing, room_after, Shows}
-use Rattle.showing.specs.declared.Shown.{Shown}
-use Rattle.showing.specs.declared.Shown.TheVariants.{Text, Refused}
+use Rattle.showing.specs.Shown.{Shown, Shown.Text, Shown.Refused, large, answer_for, room_for, showing, room_after, Shows}
 
 -- A text stands in itself.
 whole_at : (t : List ℕ) → At t 0 t

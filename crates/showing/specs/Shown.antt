@@ -6,8 +6,11 @@ use Rattle.meaning.specs.Refusals as No
 use Rattle.meaning.specs.Node.{Node}
 use Rattle.showing_form.specs.Form.{form_of}
 use Rattle.showing.specs.Text.{text, depth}
-use Rattle.showing.specs.declared.Shown.{Shown}
-use Rattle.showing.specs.declared.Shown.TheVariants.{Text, Refused}
+
+-- What is answered: a text of so many bytes, which stands first in the room; or a refusal, by number and place.
+pub data Shown : Type 0 where
+  Text : ℕ → Shown
+  Refused : ℕ → ℕ → Shown
 
 -- A tree's text is over 2,048 bytes, deeper than 32 parentheses or larger than so much room.
 abbrev pub large : Node → ℕ → Bool

@@ -29,7 +29,7 @@ use Rattle.tidying.specs.Standing.{place_count}
 use Rattle.code_rows.specs.Emission.{rows_needed}
 use Rattle.compiler.specs.Charged.{derived_charge}
 use Rattle.compiler.specs.Compiling.{shaped, program_grounds, unwritten, answer_for, table_for, answer_by, table_left, compilation, table_at}
-use Rattle.compiler.specs.declared.Compilation.TheVariants.{Rows}
+use Rattle.compiler.specs.Compiling.{Compilation.Rows}
 use Rattle.showing_form.specs.Form.{OfForm}
 
 -- The highest group is the number before the one that is free.

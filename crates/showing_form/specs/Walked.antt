@@ -1,5 +1,6 @@
 -- The walk over the items that end at a record number, from the last one back.
-use Rattle.std.specs.Prelude.{◌≡◌, refl, Bool, true, false, cond, not, ◌&&◌, List, [], ◌∷◌, ◌++◌, ℕ, ◌-◌, ◌*◌, ◌≤◌, ◌<◌, eqb, length}
+use Rattle.std.specs.Prelude.{◌≡◌, refl, Bool, true, false, cond, not, ◌&&◌, List, [], ◌∷◌, ◌++◌, ℕ, ◌-◌, ◌*◌, ◌≤◌, ◌<◌, eqb}
+use Rattle.std.specs.Prelude.{length}
 use Rattle.std.proofs.Common.{sym, ap, subst, ◌∙◌, append_assoc, append-nil, arith}
 use Rattle.meaning.specs.Node.{Node, hi}
 use Rattle.meaning.specs.Results.{concat_map}
@@ -67,3 +68,12 @@ walked_all {b} {m = m} {ok = ok} {next = next} w e = go w.front w.split (sym w.s
     go : (f : List Node) → m ≡ f ++ w.passed → length f ≡ 0 → (ok ≡ walk_ok b m) × (next ≡ next_of m)
     go [] s z = (w.ok_is ∙ ap (walk_ok b) (sym s), w.next_is ∙ ap next_of (sym s))
     go (r ∷ f) s z = absurd (omega arith)
+
+-- An item that fails is one of all.
+pub walked_fails : {b : ℕ} {table before : List ℕ} {m : List Node} {next at left : ℕ}
+    → Walked b table before m false next at left → walk_ok b m ≡ false
+walked_fails {b} w = ap (walk_ok b) w.split ∙ go w.front
+  where
+    go : (f : List Node) → walk_ok b (f ++ w.passed) ≡ false
+    go [] = sym w.ok_is
+    go (r ∷ f) = rw (go f)

@@ -1,8 +1,11 @@
 pub mod Spelling
+pub mod Escapes
 pub mod Put
+pub mod Wrote
 pub mod Texts
 pub mod Bytes
 pub mod Runs
 pub mod Sets
 pub mod Counts
 pub mod Examples
+pub mod Turns

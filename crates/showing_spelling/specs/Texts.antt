@@ -1,13 +1,14 @@
 -- Laws of the texts, by the tests that the code asks, and of a text that stands in a pattern.
-use Rattle.std.specs.Prelude.{◌≡◌, refl, Bool, true, false, not, ◌||◌, ◌&&◌, List, [], ◌∷◌, ◌++◌, ℕ, zero, suc, ◌+◌, ◌-◌, ◌/◌, ◌%◌, ◌^◌, ◌≤◌, ◌<◌, eqb, length, get_or}
-use Rattle.std.proofs.Common.{sym, ap, subst, ◌∙◌, add-zero, arith, length-append, get_or-append-add}
+use Rattle.std.specs.Prelude.{◌≡◌, refl, Bool, true, false, not, ◌||◌, ◌&&◌, List, [], ◌∷◌, ◌++◌, ℕ, zero, suc, ◌+◌, ◌-◌, ◌/◌}
+use Rattle.std.specs.Prelude.{◌%◌, ◌≤◌, ◌<◌, eqb, ltb, cond, length, get_or}
+use Rattle.std.proofs.Common.{sym, subst, ◌∙◌, add-zero, arith, length-append, get_or-append-add}
 use Rattle.std.specs.Bool.{beq}
-use Rattle.std.specs.Int.Bits.{bit_and}
-use Rattle.std.proofs.lemmas.Nat.{and_mask}
+use Rattle.std.specs.List.{list_any}
 use Rattle.std.proofs.Math.ListN.{get_or-append, get_or-eq_default}
-use Rattle.sets.specs.Sets.{bit, has, set_of, same_bytes, below, between, is_word, is_digit, is_space, in_escape}
-use borrow.Author.Tests.{lt-ltb, le-ltb, le-leb, lt-leb, eq-eqb, ne_eqb}
+use Rattle.sets.specs.Sets.{has, set_of, same_bytes, below, between, is_word, is_digit, is_space, in_escape}
+use borrow.Author.Tests.{ltb-true, ltb-false, lt-ltb, le-ltb, le-leb, lt-leb, eq-eqb, ne_eqb}
 use Rattle.sets.specs.Bits.{below_at, beq_eq}
+use Rattle.meaning.specs.Quoted.{bytes}
 use Rattle.reading_atoms.specs.Chars.{no_byte, backslash, dot, hyphen}
 use Rattle.reading_atoms.specs.Places.{byte_there}
 use Rattle.reading_grammar.specs.Atoms.{Is}
@@ -16,27 +17,30 @@ use Rattle.reading_items.specs.Reading.{literal_set, dot_set}
 use Rattle.showing_spelling.specs.Spelling.{guarded, control_letter, hex_digit, byte_text, run_text, runs_text, escape_text}
 use Rattle.showing_spelling.specs.Spelling.{best_text, escape_of, lowest, plain_text, set_text}
 
--- The bit that the code tests is the set's.
-pub set_bit : (set : List ℕ) (b : ℕ) → eqb (bit_and (get_or set (b / 32) 0 / 2 ^ (b % 32)) 1) 1 ≡ has set b
-unfolding has bit
-set_bit set b = ap (λ (k : ℕ). eqb k 1) (and_mask (get_or set (b / 32) 0 / 2 ^ (b % 32)) 1)
+-- A number up to another is that one or below it.
+by_order : {P : Type 0} (a b : ℕ) → a ≤ b → (a ≡ b → P) → (a < b → P) → P
+by_order {P} a b h same less = go (ltb a b) refl
+  where
+    go : (t : Bool) → ltb a b ≡ t → P
+    go true e = less (ltb-true a b e)
+    go false e = let l = ltb-false a b e in same (omega arith)
 
--- The bytes that stand behind `\` as words, outside a class and in one: 256 tests each, computed.
-abbrev pub guarded_words : Bool → List ℕ
-guarded_words true = 0 ∷ 0x2000 ∷ 0x70000000 ∷ 0 ∷ 0 ∷ 0 ∷ 0 ∷ 0 ∷ []
-guarded_words false = 0 ∷ 0x80004F10 ∷ 0x78000000 ∷ 0x38000000 ∷ 0 ∷ 0 ∷ 0 ∷ 0 ∷ []
+-- The bytes that stand behind `\`, outside a class and in one: 256 tests each, computed.
+abbrev pub guarded_bytes : Bool → List ℕ
+guarded_bytes true = bytes "\\]^-"
+guarded_bytes false = bytes "^$\\.*+?()[]{}|"
 
 right : Bool → ℕ → Bool
-right inClass b = beq (has (guarded_words inClass) b) (guarded inClass b)
+right inClass b = beq (list_any (λ x. eqb x b) (guarded_bytes inClass)) (guarded inClass b)
 
 rights : (inClass : Bool) → below 256 (right inClass) ≡ true
-unfolding right has bit guarded special
+unfolding right guarded special
 rights true = refl
 rights false = refl
 
-pub guarded_words_lem : (inClass : Bool) (b : ℕ) → b < 256 → has (guarded_words inClass) b ≡ guarded inClass b
+pub guarded_lem : (inClass : Bool) (b : ℕ) → b < 256 → list_any (λ x. eqb x b) (guarded_bytes inClass) ≡ guarded inClass b
 unfolding right
-guarded_words_lem inClass b h = beq_eq _ _ (below_at 256 (right inClass) (rights inClass) b h)
+guarded_lem inClass b h = beq_eq _ _ (below_at 256 (right inClass) (rights inClass) b h)
 
 -- A byte's spelling, by the tests.
 module _ (inClass : Bool) (b : ℕ) where
@@ -110,44 +114,37 @@ pub no_escape : (k x : ℕ) → 6 ≤ k → in_escape k x ≡ false
 no_escape k x h =
     get_or-eq_default (is_digit x ∷ not (is_digit x) ∷ is_word x ∷ not (is_word x) ∷ is_space x ∷ not (is_space x) ∷ []) false h
 
--- The number of a set escape.
-module _ (set : List ℕ) (k : ℕ) where
-  turn : k < 6 → 6 - k ≡ suc (6 - (k + 1))
-  turn h = omega arith
+-- The number of the set escape, when those before it were others; and where all were.
+pub escape_found : (set : List ℕ) (turns k n : ℕ) → k ≤ n → n < k + turns
+    → ((i : ℕ) → k ≤ i → i < n → same_bytes set (set_of (in_escape i)) ≡ false)
+    → same_bytes set (set_of (in_escape n)) ≡ true → escape_of set turns k ≡ n
+unfolding escape_of
+escape_found set zero k n h l others e = absurd (omega arith)
+escape_found set (suc turns) k n h l others e = by_order k n h (λ q. rw (q, e)) (λ less.
+    rw (others k (omega arith) less)
+    (escape_found set turns (suc k) n less (omega arith) (λ i a b. others i (omega arith) b) e))
 
-  pub escape_here : k < 6 → same_bytes set (set_of (in_escape k)) ≡ true → escape_of set (6 - k) k ≡ k
-  unfolding escape_of
-  escape_here h e = rw (turn h, e)
+pub escape_none : (set : List ℕ) (turns k : ℕ)
+    → ((i : ℕ) → k ≤ i → i < k + turns → same_bytes set (set_of (in_escape i)) ≡ false) → escape_of set turns k ≡ k + turns
+unfolding escape_of
+escape_none set zero k others = omega arith
+escape_none set (suc turns) k others =
+    rw (others k (omega arith) (omega arith))
+    (escape_none set turns (suc k) (λ i a b. others i (omega arith) (omega arith)) ∙ omega arith)
 
-  pub escape_next : k < 6 → same_bytes set (set_of (in_escape k)) ≡ false
-      → escape_of set (6 - k) k ≡ escape_of set (6 - (k + 1)) (k + 1)
-  unfolding escape_of
-  escape_next h e = rw (turn h, e) (ap (escape_of set (6 - (k + 1))) (omega arith))
-
-  pub escape_end : 6 - k ≡ 0 → escape_of set (6 - k) k ≡ k
-  unfolding escape_of
-  escape_end h = rw h
-
--- The lowest byte.
-pub lowest_in : (test : ℕ → Bool) (n low : ℕ) → 0 < n → test (n - 1) ≡ true → lowest test n low ≡ lowest test (n - 1) (n - 1)
+-- The lowest byte, when those before it do not pass; and where none does.
+pub lowest_none : (test : ℕ → Bool) (n other : ℕ) → ((i : ℕ) → i < n → test i ≡ false) → lowest test n other ≡ other
 unfolding lowest
-lowest_in test zero low h e = absurd (omega arith)
-lowest_in test (suc n) low h e =
-    let p : suc n - 1 ≡ n = omega arith in
-    let f : test n ≡ true = rw p at e in
-    rw (p, f)
+lowest_none test zero other none = refl
+lowest_none test (suc n) other none = rw (none n (omega arith)) (lowest_none test n other (λ i h. none i (omega arith)))
 
-pub lowest_out : (test : ℕ → Bool) (n low : ℕ) → 0 < n → test (n - 1) ≡ false → lowest test n low ≡ lowest test (n - 1) low
+pub lowest_found : (test : ℕ → Bool) (n low other : ℕ) → low < n → ((i : ℕ) → i < low → test i ≡ false) → test low ≡ true
+    → lowest test n other ≡ low
 unfolding lowest
-lowest_out test zero low h e = absurd (omega arith)
-lowest_out test (suc n) low h e =
-    let p : suc n - 1 ≡ n = omega arith in
-    let f : test n ≡ false = rw p at e in
-    rw (p, f)
-
-pub lowest_end : (test : ℕ → Bool) (n low : ℕ) → n ≡ 0 → lowest test n low ≡ low
-unfolding lowest
-lowest_end test n low e = rw e
+lowest_found test zero low other h none e = absurd (omega arith)
+lowest_found test (suc n) low other h none e = by_order low n (omega arith)
+    (λ q. rw (← q, e) (lowest_none test low low none))
+    (λ less. lowest_found test n low (cond (test n) n other) less none e)
 
 -- A set's spelling, by the tests.
 module _ (set : List ℕ) where

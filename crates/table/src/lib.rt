@@ -85,10 +85,9 @@ pub fn last_words(table: &[u32], top: usize) -> [u32; SET_WORDS]
     requires { (0 < top) × (record_words * top ≤ length table.now) }
     ensures { result ≡ take set_words (drop (record_words * (top - 1) + set_word) table.now) }
 {
+    let from = RECORD_WORDS * (top - 1) + SET;
     let mut last = [0u32; SET_WORDS];
-    for i in 0..SET_WORDS {
-        last[i] = word(table, top, SET + i);
-    }
+    last.copy_from_slice(&table[from..from + SET_WORDS]);
     last
 }
 
@@ -109,21 +108,14 @@ pub fn root(table: &[u32], top: usize) -> Derived
 fn capped(size: u32) -> u32
     ensures { result ≡ min size size_cap }
 {
-    if size < SIZE_CAP { size } else { SIZE_CAP }
+    size.min(SIZE_CAP)
 }
 
-// The first of two numbers where there are groups, else the second.
+// The first of two numbers where there are groups, else the second. A highest group of 0 is the table's word for none.
 fn first_with(highest: u32, first: u32, second: u32) -> u32
     ensures { result ≡ lower highest first second }
 {
     if highest == 0 { second } else { first }
-}
-
-// The higher of two groups.
-fn higher(a: u32, b: u32) -> u32
-    ensures { result ≡ max a b }
-{
-    if a < b { b } else { a }
 }
 
 // The derived words of two neighbours together.
@@ -135,7 +127,7 @@ fn beside(left: Derived, right: Derived) -> Derived
         records: left.records + right.records,
         size: capped(left.size + right.size),
         lowest: first_with(left.highest, left.lowest, right.lowest),
-        highest: higher(left.highest, right.highest),
+        highest: left.highest.max(right.highest),
     }
 }
 
@@ -146,12 +138,10 @@ fn along(table: &[u32], top: usize, items: u32) -> Derived
     ensures { Along result table.now top items }
 {
     let mut all = root(table, top);
-    let mut left = items - 1;
-    while 0 < left {
+    for _ in 1..items {
         let passed = all.records as usize;
         let both = beside(root(table, top - passed), all);
         all = both;
-        left -= 1;
     }
     all
 }
@@ -173,16 +163,12 @@ fn closed_size(kind: u32, items: u32, least: u32, most: u32, size: u32) -> u32
     requires { Closing kind items least most size }
     ensures { result ≡ closed_size kind items least most size }
 {
-    if kind == GROUP {
-        return capped(size + 2);
+    match kind {
+        GROUP => capped(size + 2),
+        ALTERNATION => capped(size + 2 * (items - 1)),
+        QUANTIFIER => capped(turns(size, least, most)),
+        _ => capped(size),
     }
-    if kind == ALTERNATION {
-        return capped(size + 2 * (items - 1));
-    }
-    if kind == QUANTIFIER {
-        return capped(turns(size, least, most));
-    }
-    capped(size)
 }
 
 // The derived words of a part with no parts inside it: an empty one has no rows.
@@ -222,14 +208,13 @@ pub fn derive(
             records,
             size,
             lowest: operand,
-            highest: higher(operand, inside.highest),
+            highest: operand.max(inside.highest),
         };
     }
     Derived {
         records,
         size,
-        lowest: inside.lowest,
-        highest: inside.highest,
+        ..inside
     }
 }
 
@@ -238,11 +223,7 @@ pub fn copy(table: &mut [u32], base: usize, words: &[u32; RECORD_WORDS])
     requires { (base + record_words ≤ length table.old) × (length words.now ≡ record_words) }
     ensures { table.new ≡ paste table.old base words.now record_words }
 {
-    let mut k: usize = 0;
-    while k < RECORD_WORDS {
-        table[base + k] = words[k];
-        k += 1;
-    }
+    table[base..base + RECORD_WORDS].copy_from_slice(words);
 }
 
 // The whole record at `top`, on the records of its items. Its last eight words are a byte set; or a quantifier's minimum,

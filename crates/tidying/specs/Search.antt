@@ -1,7 +1,7 @@
 -- The search for a law: over the parts, and at each over the laws, until the first place at which one fits.
-use Rattle.std.specs.Prelude.{◌≡◌, Bool, true, false, List, ℕ, ◌+◌, ◌≤◌, length}
+use Rattle.std.specs.Prelude.{Option as MayBe, Some, None, ◌≡◌, Bool, true, false, List, ℕ, ◌+◌, ◌<◌, ◌≤◌, length, get_or}
 use Rattle.std.proofs.Math.Path.{refl, sym}
-use Rattle.std.proofs.Common.{ap, ◌∙◌, arith}
+use Rattle.std.proofs.Common.{ap, subst, ◌∙◌, arith}
 use Rattle.std.proofs.lemmas.Bool.{false≢true}
 use Rattle.std.proofs.Math.Option.{Option, none, some, map}
 use Rattle.meaning.specs.Node.{Node, Node.empty}
@@ -11,14 +11,25 @@ use Rattle.tidying_laws.specs.List.{laws}
 use Rattle.tidying_laws.specs.Tidier.{Place, itself, places, lowest, found}
 use Rattle.tidying_laws.specs.Found.{first_from}
 use Rattle.tidying_laws.proofs.Found.{from_next, from_here, from_end}
-use Rattle.tidying_laws.specs.ByNumber.{nothing, law_count, law_of, IsLaw}
+use Rattle.tidying_laws.proofs.ByNumber.{in_order}
+use Rattle.tidying_laws.specs.ByNumber.{nothing, law_count, law_of, number_of, IsLaw}
 use Rattle.tidying_fitting.specs.Fitting.{is_some, fits}
 use Rattle.tidying_fitting.specs.Parts.{Tells}
 use Rattle.tidying.specs.Standing.{Whole, place_at, IsPlace, place_count, place_ends}
-use Rattle.tidying.specs.declared.Found.{Found}
-use Rattle.tidying.specs.declared.Found.TheVariants.{At, Nothing}
+use Rattle.tidying_laws.specs.declared.Law.{Law}
+use Rattle.tidying_laws.specs.declared.TheConstants.Law.{ALL}
+use Rattle.tidying.specs.declared.Found.{Found as Answer}
 
 -- The outline's values for what is found: the first place's number and the lowest law there, both from 1; or nothing.
+pub data Found : Type 0 where
+  At : ℕ → ℕ → Found
+  Nothing : Found
+
+-- Those of the search's answer.
+abbrev pub finding_of : MayBe Answer → Found
+finding_of None = Nothing
+finding_of (Some found) = At found.top (number_of found.law)
+
 abbrev pub answer_of : Option (ℕ × (ℕ × Node)) → Found
 answer_of none = Nothing
 answer_of (some (i, (k, q))) = At i k
@@ -120,3 +131,19 @@ module _ {table : List ℕ} {n : ℕ} where
             sym (ap answer_of (before.by r s ∙ from_here choice (itself empty) (places none r) top within.0 (placed r s)
             (law, p.put y) (ap (map (λ t. (t.0, p.put t.1))) first)));
       }
+
+    -- At the laws of the array, of which each has the number of its place.
+    module _ {i : ℕ} (d : Law) {b : Bool} (h : i < length ALL)
+        (tells : Tells b table top (fits (law_of (number_of (get_or ALL i d))))) (lower : Lower table n top (i + 1)) where
+      is_law : IsLaw (number_of (get_or ALL i d))
+      unfolding law_count laws
+      is_law = (omega (arith, in_order d i h), omega (arith, in_order d i h))
+
+      lower_law : Lower table n top (number_of (get_or ALL i d))
+      lower_law = subst (λ (k : ℕ). Lower table n top k) (sym (in_order d i h)) lower
+
+      pub lower_next : b ≡ false → Lower table n top (i + 1 + 1)
+      lower_next e = subst (λ (k : ℕ). Lower table n top (k + 1)) (in_order d i h) (lower_more is_law tells lower_law e)
+
+      pub found_law : b ≡ true → Before table n top → Finds (At top (number_of (get_or ALL i d))) table n
+      found_law = found_here is_law tells lower_law

@@ -14,11 +14,9 @@ use Rattle.tidying_shapes.specs.Tokens.{tokens_of}
 use Rattle.tidying_shapes.specs.Parse.{first_part, parse}
 use Rattle.tidying_shapes.proofs.Parse.{parse_skeletons}
 use Rattle.tidying_shapes.proofs.Told.{stands_count, stands_say}
-use Rattle.tidying.specs.Search.{Sought, SomeSought, Finds, answer_of}
+use Rattle.tidying.specs.Search.{Found, At, Nothing, Sought, SomeSought, Finds, answer_of}
 use Rattle.tidying.specs.Held.{Held, SomeHeld, SomeFound, Steps, held_whole, table_of, Tidies}
 use Rattle.tidying.specs.Steps.{steps}
-use Rattle.tidying.specs.declared.Found.{Found}
-use Rattle.tidying.specs.declared.Found.TheVariants.{At, Nothing}
 
 -- On the way: the records of a pattern that is tidied to the same.
 pub record Reached (table : List ℕ) (n : ℕ) (r : Node) (g p : ℕ) : Type 0 where

@@ -2,6 +2,7 @@
 use mathlib.Core.Path.{◌≡◌, refl, sym, ap, subst, ◌∙◌}
 use mathlib.Core.Bool.{Bool, false, not, false≢true}
 use mathlib.Core.Option.{Option, none, some}
+use Rattle.std.proofs.Common.{None}
 use mathlib.Core.List.{List, [], ◌∷◌, ◌++◌, append-nil}
 use Prim.Native.Nat.{ℕ, ◌-◌, ◌≤◌, ◌<◌}
 use native.Mathlib.Omega.{arith}
@@ -24,7 +25,7 @@ use Rattle.table.specs.Roots.{last_ends, inside}
 use Rattle.tidying_fitting.specs.Words.{own_of, start_of, same_test, when_some}
 use Rattle.tidying_fitting.specs.Wants.{alike, begins_with}
 use Rattle.tidying_fitting.specs.Fitting.{is_some}
-use Rattle.tidying_fitting.specs.Places.{Test, Walk, Turn, begin, turn}
+use Rattle.tidying_fitting.specs.Places.{Place, Test, Walk, Turn, begin, turn}
 use Rattle.tidying_fitting.specs.declared.Record.{Record}
 
 -- A byte set is the same as the set of no byte exactly if it has no byte.
@@ -44,19 +45,7 @@ set_kind_lem (seq r q) e = absurd (omega arith)
 set_kind_lem (alt r q) e = absurd (omega arith)
 set_kind_lem (many n f lazy r) e = absurd (omega arith)
 
-not_void : (r : Node) → (kind_of r ≡ set_kind → ⊥) → false ≡ is_void r
-not_void empty h = refl
-not_void (bset s) h = absurd (h refl)
-not_void (assert a) h = refl
-not_void (group k r) h = refl
-not_void (seq r q) h = refl
-not_void (alt r q) h = refl
-not_void (many n e lazy r) h = refl
-
 module _ {table : List ℕ} {top : ℕ} where
-  pub other_kind : {o : Record} → Tells o table top own_of → (o.kind ≡ set_kind → ⊥) → Tells false table top is_void
-  other_kind t h = record { by = λ before r p. not_void r (λ e. h (ap (λ d. d.kind) (t.by before r p) ∙ e)) }
-
   pub void_told : {o : Record} → Tells o table top own_of → o.kind ≡ set_kind → {w z : List ℕ} → Tells w table top last_of
       → Holds z (λ x. false) → {b : Bool} → b ≡ same_bytes w z → Tells b table top is_void
   void_told {o} t k {w} {z} u h {b} e = record {
@@ -78,7 +67,7 @@ abbrev pub nothing : Test
 nothing seen r = false
 
 -- The part that a turn comes to.
-pub turn_part : {test : Test} {l : List Node} {table : List ℕ} {end left : ℕ} {before : List ℕ} {found : ℕ}
+pub turn_part : {test : Test} {l : List Node} {table : List ℕ} {end left : ℕ} {before : List ℕ} {found : Place}
     → Turn test l table end left before found → SomePart table end
 turn_part t = record { before = _; part = t.part; ends = last_ends t.front t.part t.series }
 
@@ -86,7 +75,7 @@ turn_part t = record { before = _; part = t.part; ends = last_ends t.front t.par
 pub record Passing (table : List ℕ) (top end left : ℕ) (before : List ℕ) (r : Node) : Type 0 where
   pub sequence : kind_of r ≡ sequence_kind
   pub some : 1 ≤ left
-  pub walk : Walk nothing (inner r) table end left before 0
+  pub walk : Walk nothing (inner r) table end left before None
 
 two_items : (r : Node) → kind_of r ≡ sequence_kind → 2 ≤ length (inner r)
 unfolding inner
@@ -108,21 +97,6 @@ first_of_lem (seq r p) q l e f = cc
 first_of_lem (alt r p) q l e f = absurd (omega arith)
 first_of_lem (many n m lazy r) q l e f = absurd (omega arith)
 
-other_first : (r : Node) → (kind_of r ≡ sequence_kind → ⊥) → first_item r ≡ r
-other_first empty h = refl
-other_first (bset s) h = refl
-other_first (assert a) h = refl
-other_first (group k r) h = refl
-other_first (seq r q) h = absurd (h refl)
-other_first (alt r q) h = refl
-other_first (many n e lazy r) h = refl
-
-pub first_alone : {table : List ℕ} {top : ℕ} {o : Record} → Tells o table top own_of → (o.kind ≡ sequence_kind → ⊥)
-    → FirstEnds top table top
-first_alone {table} {top} t h = record {
-  by = λ before r p. rw (other_first r (λ e. h (ap (λ d. d.kind) (t.by before r p) ∙ e))) p;
-}
-
 module _ {table : List ℕ} {top : ℕ} {before : List ℕ} {r : Node} where
   pub pass_first : (p : Ends table top before r) {o : Record} → Tells o table top own_of → o.kind ≡ sequence_kind
       → Passing table top (top - 1) o.items before r
@@ -132,7 +106,7 @@ module _ {table : List ℕ} {top : ℕ} {before : List ℕ} {r : Node} where
       rw own (record { sequence = kind; some = omega (arith, two_items r kind); walk = begin nothing (inside p) })
 
   pub pass_turn : {end left : ℕ} → Passing table top end left before r → 1 < left → Turn nothing (inner r) table end left
-      before 0
+      before None
   pass_turn w h = turn w.walk (omega arith)
 
   pub pass_more : {end left : ℕ} (w : Passing table top end left before r) → 1 < left → {n : ℕ} → Tells n table end (start_of end)
@@ -205,9 +179,6 @@ none_alike (some s) y h =
     sym (same_test (same y (bset s)) false (λ t. absurd (h (ap kind_of (same_eq y (bset s) t)))) (λ t. absurd (false≢true t)))
 
 module _ {table : List ℕ} {one other a b : ℕ} (fa : FirstEnds a table one) (fb : FirstEnds b table other) where
-  pub first_asked : SomePart table one → SomePart table a
-  first_asked s = record { before = s.before; part = first_item s.part; ends = fa.by s.before s.part s.ends }
-
   alike_by : {x : Bool} → ((before before' : List ℕ) (p q : Node) → Ends table a before p → Ends table b before' q → x ≡
       same_set (byte_set p) q)
       → TellsBoth x table one other alike

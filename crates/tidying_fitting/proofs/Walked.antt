@@ -1,28 +1,27 @@
 -- The last part of a series, and walks over a series in a loop's words. Assumes nothing.
 use mathlib.Core.Path.{◌≡◌, refl, sym, ap, ◌∙◌}
-use mathlib.Core.Bool.{Bool, true, false, cond, not, ◌||◌, or-true, or-false}
+use mathlib.Core.Bool.{Bool, true, false, cond, ◌||◌, or-true, or-false}
 use mathlib.Core.Option.{Option, none, some}
 use mathlib.Core.List.{List, [], ◌∷◌, ◌++◌}
 use Prim.Native.Nat.{ℕ, ◌-◌, ◌≤◌, ◌<◌}
 use native.Mathlib.Omega.{arith}
-use lib.ListN.{length, length-append}
-use lib.Dec.{eqb}
-use borrow.Author.Tests.{ne_eqb}
+use lib.ListN.{length-append}
+use Rattle.std.proofs.Common.{Some, None}
+use Rattle.std.specs.Option.{is_some as is_found}
 use Rattle.meaning.specs.Node.{Node}
 use Rattle.meaning.specs.Results.{concat_map}
 use Rattle.table.specs.Table.{record_count, records}
-use Rattle.table.specs.Laws.{inner, inner_count, long}
+use Rattle.table.specs.Laws.{inner, long}
 use Rattle.table.specs.Roots.{stands_long, last_ends, shorter, some_last, inside}
 use Rattle.tidying_laws.specs.Alternatives.{past}
 use Rattle.tidying_laws.specs.Equal.{same}
 use Rattle.table.specs.Stands.{Ends, Series, SomePart}
 use Rattle.tidying_fitting.specs.Parts.{SomeLast, Tells, TellsLast, TellsBoth}
-use Rattle.tidying_fitting.specs.Parts.{room}
 use Rattle.tidying_fitting.specs.Words.{own_of, start_of}
 use Rattle.tidying_fitting.specs.Wants.{alike, follows, any_leftmost}
 use Rattle.tidying_laws.specs.Choices.{any}
 use Rattle.tidying_fitting.specs.Fitting.{is_some}
-use Rattle.tidying_fitting.specs.Places.{Split, Test, leftmost, end_of, Walk, begin, turn, over, past_more}
+use Rattle.tidying_fitting.specs.Places.{Place, Split, Test, leftmost, end_of, Walk, begin, turn, over, past_more}
 use Rattle.tidying_fitting.specs.declared.Record.{Record}
 
 -- The last part of a series, and the one before it.
@@ -44,16 +43,6 @@ record Before (table : List ℕ) (n : ℕ) (before : List ℕ) (front : List Nod
   seen : past front [] ≡ part ∷ past others []
 
 module _ {table : List ℕ} {top items : ℕ} where
-  pub alone_told : items ≤ 1 → TellsLast false table top items (λ front q. follows (past front []) q)
-  alone_told h = record {
-    by = λ before front q series. go front q
-        (omega (arith, series.counted, length-append front (q ∷ [])));
-  }
-    where
-      go : (front : List Node) (q : Node) → length front ≤ 0 → false ≡ follows (past front []) q
-      go [] q h = refl
-      go (r ∷ front) q h = absurd (omega arith)
-
   before_last : {n : ℕ} → 1 < items → Tells n table top (start_of top) → (before : List ℕ) (front : List Node) (q : Node)
       → Series table top items before (front ++ (q ∷ [])) → Before table n before front
   before_last {n} h t before front q series =
@@ -81,10 +70,10 @@ module _ {table : List ℕ} {top items : ℕ} where
         rw k.seen (u.by _ _ k.part q k.ends (last_ends front q series));
   }
 
--- What a walk found is not 0 exactly if there is a part that passes.
-pub found_some : (start : ℕ) (o : Option Split) → not (eqb (end_of start o) 0) ≡ is_some o
+-- A walk found a place exactly if there is a part that passes.
+pub found_some : (start : ℕ) (o : Option Split) → is_found (end_of start o) ≡ is_some o
 found_some start none = refl
-found_some start (some s) = rw (ne_eqb (end_of start (some s)) 0 (λ e. omega (arith, inner_count s.part)))
+found_some start (some s) = refl
 
 any_past : (p : Node → Bool) (l seen : List Node) → any p (past l seen) ≡ (any p l || any p seen)
 any_past p [] seen = refl
@@ -104,21 +93,21 @@ any_append p (r ∷ l) m = ap (λ b. p r || b) (any_append p l m) ∙ sym (or_as
     or_assoc false b c = refl
 
 -- A walk over a series, in the loop's words: its first state, what a turn needs and gives, and its end.
-module _ {test : Test} {l : List Node} {table : List ℕ} {end left : ℕ} {before : List ℕ} {found : ℕ}
+module _ {test : Test} {l : List Node} {table : List ℕ} {end left : ℕ} {before : List ℕ} {found : Place}
     (w : Walk test l table end left before found) where
   pub series_asked : 0 < left → SomeLast table end left
   series_asked h = let t = turn w h in record { before = before; front = t.front; last = t.part; series = t.series }
 
   pub walk_more : 0 < left → {b : Bool} → TellsLast b table end left (λ front q. test (past front []) q) → {n : ℕ} → Tells n
       table end (start_of end)
-      → Walk test l table n (left - 1) before (cond b end found)
+      → Walk test l table n (left - 1) before (cond b (Some end) found)
   walk_more h {b} u {n} s =
       let t = turn w h in
       rw (u.by before t.front t.part t.series, s.by _ t.part (last_ends t.front t.part t.series)) t.walk
 
 pub walk_first : (test : Test) {table : List ℕ} {top : ℕ} {before : List ℕ} {r : Node} → Ends table top before r →
     {o : Record} → Tells o table top own_of
-    → Walk test (inner r) table (top - 1) o.items before 0
+    → Walk test (inner r) table (top - 1) o.items before None
 walk_first test {before = before} {r = r} p {o} t = let own : o ≡ own_of r = t.by before r p in rw own (begin test (inside p))
 
 -- It ends where the part starts.
@@ -134,7 +123,7 @@ start_of_lem {before = before} {r = r} p series = omega (
 )
 
 pub walk_over : {test : Test} {table : List ℕ} {top : ℕ} {before : List ℕ} {r : Node} → Ends table top before r →
-    {end left found : ℕ}
+    {end left : ℕ} {found : Place}
     → Walk test (inner r) table end left before found → left ≤ 0 → found ≡ end_of (top - record_count r)
     (leftmost test [] (inner r))
 walk_over {test} {r = r} p w h = let o = over w h in o.0 ∙ ap (λ n. end_of n (leftmost test [] (inner r))) (start_of_lem p o.1)
@@ -143,21 +132,20 @@ walk_over {test} {r = r} p w h = let o = over w h in o.0 ∙ ap (λ n. end_of n 
 abbrev pub equals : Node → Test
 equals q seen r = same q r
 
-walk_any : (p : Node → Bool) {l : List Node} {table : List ℕ} {end left : ℕ} {before : List ℕ} {found : ℕ}
-    → Walk (λ s r. p r) l table end left before found → 0 < found → any p l ≡ true
-walk_any p {l} {end = end} {found = found} w h =
+walk_any : (p : Node → Bool) {l : List Node} {table : List ℕ} {end left found : ℕ} {before : List ℕ}
+    → Walk (λ s r. p r) l table end left before (Some found) → any p l ≡ true
+walk_any p {l} {end = end} w =
     let some_more : any p w.more ≡ true = any_leftmost p (past w.rest []) w.more
-    ∙ sym (found_some end (leftmost (λ s r. p r) (past w.rest []) w.more)) ∙ ap (λ n. not (eqb n 0)) (sym w.best)
-    ∙ ap not (ne_eqb found 0 (λ e. omega arith)) in
+    ∙ sym (found_some end (leftmost (λ s r. p r) (past w.rest []) w.more)) ∙ ap is_found (sym w.best) in
     ap (any p) w.split ∙ any_append p w.rest w.more ∙ ap (λ b. any p w.rest || b) some_more ∙ or-true
     (any p w.rest)
 
 module _ {table : List ℕ} {top items : ℕ} {before : List ℕ} (front : List Node) (q : Node)
     (series : Series table top items before (front ++ (q ∷ []))) where
-  pub repeat_first : {n : ℕ} → Tells n table top (start_of top) → Walk (equals q) front table n (items - 1) before 0
+  pub repeat_first : {n : ℕ} → Tells n table top (start_of top) → Walk (equals q) front table n (items - 1) before None
   repeat_first t = rw (t.by _ q (last_ends front q series)) (begin (equals q) (shorter front q series))
 
-  module _ {end left : ℕ} (w : Walk (equals q) front table end left before 0) where
+  module _ {end left : ℕ} (w : Walk (equals q) front table end left before None) where
     same_told : 0 < left → {b : Bool} → TellsBoth b table top end same → TellsLast b table end left
         (λ front p. equals q (past front []) p)
     same_told h u = record {
@@ -166,7 +154,7 @@ module _ {table : List ℕ} {top items : ℕ} {before : List ℕ} (front : List 
 
     pub repeat_more : 0 < left → {b : Bool} → TellsBoth b table top end same → b ≡ false → {n : ℕ} → Tells n table end
         (start_of end)
-        → Walk (equals q) front table n (left - 1) before 0
+        → Walk (equals q) front table n (left - 1) before None
     repeat_more h u e s = rw e at (walk_more w h (same_told h u) s)
 
     pub repeat_found : 0 < left → {b : Bool} → TellsBoth b table top end same → b ≡ true → true ≡ any (same q) (past front [])
@@ -174,12 +162,10 @@ module _ {table : List ℕ} {top items : ℕ} {before : List ℕ} (front : List 
         let t = turn w h in
         let here = last_ends t.front t.part t.series in
         let hit : same q t.part ≡ true = sym (u.by _ _ q t.part (last_ends front q series) here) ∙ e in
-        let some-here = room here in
-        let there : any (same q) front ≡ true = walk_any (same q) (rw hit at t.walk)
-        (omega (arith, some-here.some, some-here.few)) in
+        let there : any (same q) front ≡ true = walk_any (same q) (rw hit at t.walk) in
         sym (any_past (same q) front [] ∙ ap (λ b. b || false) there)
 
     pub repeat_over : left ≤ 0 → false ≡ any (same q) (past front [])
     repeat_over h =
         sym (any_past (same q) front [] ∙ or-false (any (same q) front) ∙ any_leftmost (same q) [] front
-        ∙ sym (found_some end (leftmost (equals q) [] front)) ∙ ap (λ n. not (eqb n 0)) (sym (over w h).0))
+        ∙ sym (found_some end (leftmost (equals q) [] front)) ∙ ap is_found (sym (over w h).0))

@@ -1,29 +1,26 @@
 -- From what is found in a series to what is told of the law that looks for it. Assumes nothing.
 use mathlib.Core.Path.{◌≡◌, sym, ap, subst, ◌∙◌}
-use mathlib.Core.Bool.{Bool, true, false, not, ◌&&◌, ◌||◌}
+use mathlib.Core.Bool.{Bool, true, false, ◌&&◌, ◌||◌}
 use mathlib.Core.List.{List, []}
-use Prim.Native.Nat.{ℕ, ◌-◌}
+use Prim.Native.Nat.{ℕ}
 use lib.Dec.{eqb}
 use borrow.Author.Tests.{eq-eqb, ne_eqb}
 use Rattle.meaning.specs.Node.{Node, hi}
-use Rattle.table.specs.Table.{record_count, empty_kind, sequence_kind, alternation_kind}
-use Rattle.table.specs.Laws.{inner, kind_of}
+use Rattle.table.specs.Table.{empty_kind, sequence_kind, alternation_kind}
+use Rattle.tidying_laws.specs.ByNumber.{IsLaw, law_of}
+use Rattle.tidying_laws.proofs.ByNumber.{no_law}
 use Rattle.tidying_laws.specs.Groups.{group_free, proper_positive}
 use Rattle.tidying_laws.specs.Alternatives.{past}
-use Rattle.tidying_laws.specs.ByNumber.{law_of, IsLaw}
-use Rattle.tidying_laws.proofs.ByNumber.{no_law}
 use Rattle.tidying_laws.specs.Laws.{is_empty, t7}
-use Rattle.tidying_fitting.specs.Fitting.{is_some, fits}
+use Rattle.tidying_fitting.specs.Fitting.{fits}
 use Rattle.table.specs.Stands.{Ends}
 use Rattle.table.specs.Roots.{last_ends}
 use Rattle.tidying_fitting.specs.Parts.{Tells, TellsLast}
 use Rattle.tidying_fitting.specs.Words.{own_of, free_highest, empty_kind_lem}
-use Rattle.tidying_fitting.specs.Places.{leftmost}
-use Rattle.tidying_fitting.specs.Wants.{repeats, goes, wants, wanted_end, has_wanted, t7_wanted}
+use Rattle.tidying_fitting.specs.Wants.{repeats, goes, wants, has_wanted, t7_wanted}
 use Rattle.tidying_fitting.specs.declared.Record.{Record}
 use Rattle.tidying_fitting.specs.declared.Want.{Want}
 use Rattle.tidying_fitting.specs.declared.Want.TheVariants.{Void}
-use Rattle.tidying_fitting.proofs.Walked.{found_some}
 
 module _ {table : List ℕ} {top : ℕ} where
   -- T1: an empty part is told by its kind.
@@ -51,25 +48,6 @@ module _ {table : List ℕ} {top : ℕ} where
         ∙ sym (ap (λ b. b && repeats (past front []) q) (no_group t _ q (last_ends front q series) ∙ eq-eqb o.highest 0 h));
   }
 
-  -- A part of another kind has none, and one of the kind has one exactly if the walk found it.
-  pub kind_differs : (kind : ℕ) (want : Want) {o : Record} → Tells o table top own_of → (o.kind ≡ kind → ⊥) → Tells false
-      table top (has_wanted kind want)
-  kind_differs kind want t h = record {
-    by = λ before r p.
-        sym (ap (λ b. b && is_some (leftmost (wants want) [] (inner r)))
-        (ne_eqb (kind_of r) kind (λ e. h (ap (λ d. d.kind) (t.by before r p) ∙ e))));
-  }
-
-  pub found_told : (kind : ℕ) (want : Want) {o : Record} → Tells o table top own_of → o.kind ≡ kind → {n : ℕ} → Tells n table
-      top (wanted_end want top)
-      → Tells (not (eqb n 0)) table top (has_wanted kind want)
-  found_told kind want t e u = record {
-    by = λ before r p.
-        ap (λ n. not (eqb n 0)) (u.by before r p) ∙ found_some (top - record_count r) (leftmost (wants want) [] (inner r))
-        ∙ sym (ap (λ b. b && is_some (leftmost (wants want) [] (inner r)))
-        (eq-eqb (kind_of r) kind (sym (ap (λ d. d.kind) (t.by before r p)) ∙ e)));
-  }
-
   -- T7: among alternatives, or among the items of a sequence without groups.
   module _ {a : Bool} (t : Tells a table top (has_wanted alternation_kind Void)) where
     alternatives : (r : Node) (before : List ℕ) → Ends table top before r → fits t7 r ≡
@@ -77,9 +55,9 @@ module _ {table : List ℕ} {top : ℕ} where
     alternatives r before p =
         t7_wanted r p.proper ∙ ap (λ b. b || (has_wanted sequence_kind Void r && eqb (hi r) 0)) (sym (t.by before r p))
 
-    pub void_alternative : a ≡ true → Tells true table top (fits t7)
+    pub void_alternative : a ≡ true → Tells a table top (fits t7)
     void_alternative e = record {
-      by = λ before r p. sym (alternatives r before p ∙ ap (λ b. b || (has_wanted sequence_kind Void r && eqb (hi r) 0)) e);
+      by = λ before r p. e ∙ sym (alternatives r before p ∙ ap (λ b. b || (has_wanted sequence_kind Void r && eqb (hi r) 0)) e);
     }
 
     module _ (e : a ≡ false) {b : Bool} (u : Tells b table top (has_wanted sequence_kind Void)) where
@@ -88,8 +66,8 @@ module _ {table : List ℕ} {top : ℕ} where
           alternatives r before p ∙ ap (λ b. b || (has_wanted sequence_kind Void r && eqb (hi r) 0)) e
           ∙ ap (λ b. b && eqb (hi r) 0) (sym (u.by before r p))
 
-      pub no_void : b ≡ false → Tells false table top (fits t7)
-      no_void f = record { by = λ before r p. sym (items r before p ∙ ap (λ b. b && eqb (hi r) 0) f) }
+      pub no_void : b ≡ false → Tells b table top (fits t7)
+      no_void f = record { by = λ before r p. f ∙ sym (items r before p ∙ ap (λ b. b && eqb (hi r) 0) f) }
 
       pub void_item : b ≡ true → {o : Record} → Tells o table top own_of → Tells (eqb o.highest 0) table top (fits t7)
       void_item f t = record {

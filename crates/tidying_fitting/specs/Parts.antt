@@ -1,5 +1,5 @@
 -- What is asked and answered of a part, or of a series with a last part, whose records stand in a table.
-use Rattle.std.specs.Prelude.{◌≡◌, Bool, true, false, List, [], ◌∷◌, ◌++◌, ℕ, ◌+◌, ◌*◌, ◌≤◌, ◌<◌, length, get_or}
+use Rattle.std.specs.Prelude.{◌≡◌, List, [], ◌∷◌, ◌++◌, ℕ, ◌*◌, ◌≤◌, ◌<◌, length}
 use Rattle.std.proofs.Common.{arith}
 use Rattle.meaning.specs.Node.{Node, Node.empty, Node.bset, Node.assert, Node.group, Node.seq, Node.alt, Node.many}
 use Rattle.meaning.specs.Flat.{Kind, parts, by_parts}
@@ -41,11 +41,6 @@ first_item (many n e lazy r) = many n e lazy r
 
 pub record FirstEnds (first : ℕ) (table : List ℕ) (top : ℕ) : Type 0 where
   pub by : (before : List ℕ) (r : Node) → Ends table top before r → Ends table first before (first_item r)
-
--- Whether two stretches of words are the same.
-pub record Compares (b : Bool) (table : List ℕ) (one other words : ℕ) : Type 0 where
-  pub yes : b ≡ true → (i : ℕ) → i < words → get_or table (one + i) 0 ≡ get_or table (other + i) 0
-  pub no : b ≡ false → ((i : ℕ) → i < words → get_or table (one + i) 0 ≡ get_or table (other + i) 0) → ⊥
 
 -- A part has a record, and no more than stand there; and there is room for them.
 pub record Room (table : List ℕ) (top : ℕ) (r : Node) : Type 0 where

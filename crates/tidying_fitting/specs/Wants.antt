@@ -18,7 +18,7 @@ use Rattle.tidying_laws.specs.Laws.{first_set, rest_of, Run, extend, run, shared
 use Rattle.tidying_laws.specs.Laws.{distinct, possible, share, t1, t6, t7, t8}
 use Rattle.tidying_fitting.specs.Fitting.{is_some, fits}
 use Rattle.tidying_fitting.specs.Words.{free_highest, when_some}
-use Rattle.tidying_fitting.specs.Places.{Split, behind, Test, leftmost, end_of}
+use Rattle.tidying_fitting.specs.Places.{Split, behind, Place, Test, leftmost, end_of}
 use Rattle.tidying_fitting.specs.declared.Want.{Want}
 use Rattle.tidying_fitting.specs.declared.Want.TheVariants.{Empty, Equal, Void, Alike}
 
@@ -48,8 +48,8 @@ wants Equal seen r = goes seen r
 wants Void seen r = is_void r
 wants Alike seen r = follows seen r
 
--- Where the leftmost such part of the part that ends at `top` ends, 0 if there is none; and whether a part of a kind has one.
-abbrev pub wanted_end : Want → ℕ → Node → ℕ
+-- Where the leftmost such part of the part that ends at `top` ends; and whether a part of a kind has one.
+abbrev pub wanted_end : Want → ℕ → Node → Place
 wanted_end want top r = end_of (top - record_count r) (leftmost (wants want) [] (inner r))
 
 abbrev pub has_wanted : ℕ → Want → Node → Bool

@@ -17,6 +17,10 @@ use Rattle.tidying_laws.specs.Laws.{when, counts, is_empty, on_assert, on_many, 
 use Rattle.tidying_fitting.specs.Fitting.{is_some, fits}
 use Rattle.tidying_fitting.specs.declared.Record.{Record}
 
+-- What a word says of laziness: 0 is greedy, as a quantifier's word is.
+abbrev pub flag_of : ℕ → Bool
+flag_of n = not (eqb n 0)
+
 -- What a part's own record says.
 abbrev pub own_of : Node → Record
 own_of r = record {
@@ -26,7 +30,7 @@ own_of r = record {
   highest = hi r;
   least = get_or (last_of r) 0 0;
   most = get_or (last_of r) 1 0;
-  lazy = get_or (last_of r) 2 0;
+  lazy = flag_of (get_or (last_of r) 2 0);
 }
 
 -- The record number at which a part starts that ends at `top`.
@@ -190,30 +194,33 @@ one_more n none lazy q h = refl
 one_more zero (some e) lazy q h = let same : 0 + e ≡ e = omega arith in rw same
 one_more (suc n) (some e) lazy q h = rw (ne_eqb (suc n) 0 (λ e. omega arith))
 
--- The laziness of a quantifier, as a word.
-absorbed_word : (inner outer : Bool) → absorbed inner outer ≡ leb (bit_of outer) (bit_of inner)
+-- The laziness of a quantifier, by its word.
+abbrev pub absorbs : Bool → Bool → Bool
+absorbs outer inner = not outer || inner
+
+absorbed_word : (inner outer : Bool) → absorbed inner outer ≡ absorbs (flag_of (bit_of outer)) (flag_of (bit_of inner))
 absorbed_word false false = refl
 absorbed_word false true = refl
 absorbed_word true false = refl
 absorbed_word true true = refl
 
-same_word : (outer inner : Bool) → beq outer inner ≡ eqb (bit_of outer) (bit_of inner)
+same_word : (outer inner : Bool) → beq outer inner ≡ beq (flag_of (bit_of outer)) (flag_of (bit_of inner))
 same_word false false = refl
 same_word false true = refl
 same_word true false = refl
 same_word true true = refl
 
-abbrev pub both_zero : ℕ → ℕ → Bool
-both_zero outer inner = eqb outer 0 && eqb inner 0
+abbrev pub both_greedy : Bool → Bool → Bool
+both_greedy outer inner = not outer && not inner
 
-greedy_word : (outer inner : Bool) → not (outer || inner) ≡ both_zero (bit_of outer) (bit_of inner)
+greedy_word : (outer inner : Bool) → not (outer || inner) ≡ both_greedy (flag_of (bit_of outer)) (flag_of (bit_of inner))
 greedy_word false false = refl
 greedy_word false true = refl
 greedy_word true false = refl
 greedy_word true true = refl
 
 -- T5, T9 and T10: such a quantifier over another, by what the laws ask of the laziness.
-abbrev pub lazy_words : (ℕ → ℕ → Bool) → Node → Bool
+abbrev pub lazy_words : (Bool → Bool → Bool) → Node → Bool
 lazy_words f = on_part (λ r q. f (own_of r).lazy (own_of q).lazy)
 
 shuffle : (a b c d : Bool) → ((a && b) && c && d) ≡ ((a && (b && d)) && c)
@@ -229,9 +236,9 @@ unnested : (least most : ℕ) (o : Record) (q : Node) (b : Bool) → (kind_of q 
     → false ≡ (nested_in least most o (own_of q) && b)
 unnested least most o q b h = rw (ne_eqb (kind_of q) quantifier_kind h, and_false (ranged o least most))
 
-module _ (least : ℕ) (more : Option ℕ) (most : ℕ) (lazyTest : Bool → Bool → Bool) (wordTest : ℕ → ℕ → Bool)
+module _ (least : ℕ) (more : Option ℕ) (most : ℕ) (lazyTest : Bool → Bool → Bool) (wordTest : Bool → Bool → Bool)
     (made : Bool → Node → Node) (outside : Counted least more most) (inside : Counted 0 more most)
-    (asWords : (inner outer : Bool) → lazyTest inner outer ≡ wordTest (bit_of outer) (bit_of inner)) where
+    (asWords : (inner outer : Bool) → lazyTest inner outer ≡ wordTest (flag_of (bit_of outer)) (flag_of (bit_of inner))) where
   nested_words : (n : ℕ) (e : Option ℕ) (lazy : Bool) (q : Node) → Proper (many n e lazy q)
       → is_some (on_many (λ m f inner r. when (counts n e least more && counts m f 0 more && lazyTest inner lazy && group_free r)
       (made lazy r)) q)
@@ -245,7 +252,7 @@ module _ (least : ℕ) (more : Option ℕ) (most : ℕ) (lazyTest : Bool → Boo
         asWords inner lazy,
         free_highest q (proper_positive q h.1.1),
       ) (shuffle (ranged (own_of (many n e lazy (many m f inner q))) least most) (ranged (own_of (many m f inner q)) 0 most)
-      (wordTest (bit_of lazy) (bit_of inner)) (eqb (hi q) 0))
+      (wordTest (flag_of (bit_of lazy)) (flag_of (bit_of inner))) (eqb (hi q) 0))
   nested_words n e lazy empty h = unnested least most (own_of (many n e lazy empty)) empty _ (λ e. omega arith)
   nested_words n e lazy (bset s) h = unnested least most (own_of (many n e lazy (bset s))) (bset s) _ (λ e. omega arith)
   nested_words n e lazy (assert a) h = unnested least most (own_of (many n e lazy (assert a))) (assert a) _ (λ e. omega arith)
@@ -264,13 +271,13 @@ module _ (least : ℕ) (more : Option ℕ) (most : ℕ) (lazyTest : Bool → Boo
   nested_fits (alt r q) h = refl
   nested_fits (many n e lazy q) h = nested_words n e lazy q h
 
-pub t5_words : (r : Node) → Proper r → fits t5 r ≡ (is_nested 0 no_maximum r && lazy_words leb r)
-t5_words = nested_fits 0 none no_maximum absorbed leb (λ lazy r. many 0 none lazy r) (none_more 0) (none_more 0) absorbed_word
+pub t5_words : (r : Node) → Proper r → fits t5 r ≡ (is_nested 0 no_maximum r && lazy_words absorbs r)
+t5_words = nested_fits 0 none no_maximum absorbed absorbs (λ lazy r. many 0 none lazy r) (none_more 0) (none_more 0) absorbed_word
 
-pub t9_words : (r : Node) → Proper r → fits t9 r ≡ (is_nested 0 1 r && lazy_words eqb r)
-t9_words = nested_fits 0 (some 1) 1 (λ inner outer. beq outer inner) eqb (λ lazy r. many 0 (some 1) lazy r)
+pub t9_words : (r : Node) → Proper r → fits t9 r ≡ (is_nested 0 1 r && lazy_words beq r)
+t9_words = nested_fits 0 (some 1) 1 (λ inner outer. beq outer inner) beq (λ lazy r. many 0 (some 1) lazy r)
     one_more one_more (λ inner outer. same_word outer inner)
 
-pub t10_words : (r : Node) → Proper r → fits t10 r ≡ (is_nested 1 no_maximum r && lazy_words both_zero r)
-t10_words = nested_fits 1 none no_maximum (λ inner outer. not (outer || inner)) both_zero (λ lazy r. many 0 none false r)
+pub t10_words : (r : Node) → Proper r → fits t10 r ≡ (is_nested 1 no_maximum r && lazy_words both_greedy r)
+t10_words = nested_fits 1 none no_maximum (λ inner outer. not (outer || inner)) both_greedy (λ lazy r. many 0 none false r)
     (none_more 1) (none_more 0) (λ inner outer. greedy_word outer inner)

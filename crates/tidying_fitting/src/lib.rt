@@ -2,18 +2,22 @@
 // stands right below the record number at which its records end, `top`, on the parts inside it.
 #![tactic(auto)]
 
-use table::{HIGHEST, ITEMS, KIND, LAZY, LEAST, MOST, RECORDS, word};
-use tidying_laws::{T1, T2, T3, T4, T5, T6, T7, T8, T9, T10};
-
-mod quantifiers; // quantifiers.rt: T2 to T5, T9 and T10, laws for a quantifier
-pub mod series; // series.rt: T1 and T6 to T8, laws for the items of a sequence and the alternatives of an alternation
+mod quantifiers; // quantifiers.rt: the tests of T2 to T5, T9 and T10, laws for a quantifier
+pub mod series; // series.rt: the tests of T1 and T6 to T8, laws for items and alternatives
 
 ghost use Rattle.table.specs.Laws.{last_of};
-ghost use Rattle.tidying_laws.specs.ByNumber.{law_of};
+ghost use Rattle.tidying_laws.specs.ByNumber.{law_of, number_of};
 ghost use Rattle.tidying_fitting.specs.Fitting.{fits};
 ghost use Rattle.table.specs.Stands.{SomePart};
 ghost use Rattle.tidying_fitting.specs.Parts.{Tells};
 ghost use Rattle.tidying_fitting.specs.Words.{own_of, start_of};
+
+use quantifiers::{loop_of_loop, loop_once_of_loop, once_or_never, option_of_option, over};
+use series::{has_wanted, void_part};
+use table::{
+    ALTERNATION, ASSERTION, EMPTY, HIGHEST, ITEMS, KIND, LAZY, LEAST, MOST, RECORDS, SEQUENCE, word,
+};
+use tidying_laws::Law;
 
 // What a part's own record says: its kind, how many records and items it has, its highest group, and a quantifier's
 // counts and laziness.
@@ -25,7 +29,7 @@ pub struct Record {
     pub highest: u32,
     pub least: u32,
     pub most: u32,
-    pub lazy: u32,
+    pub lazy: bool,
 }
 
 // What a law looks for among the parts of a series: T1 an empty item, T6 an alternative without groups that equals an
@@ -50,7 +54,7 @@ pub fn own(table: &[u32], top: usize) -> Record
         highest: word(table, top, HIGHEST),
         least: word(table, top, LEAST),
         most: word(table, top, MOST),
-        lazy: word(table, top, LAZY),
+        lazy: word(table, top, LAZY) != 0,
     }
 }
 
@@ -76,17 +80,27 @@ pub fn fits(table: &[u32], top: usize, law: u32) -> bool
     requires { SomePart table.now top }
     ensures { Tells result table.now top (fits (law_of law)) }
 {
+    match Law::try_from(law) {
+        Ok(law) => law_fits(table, top, law),
+        Err(_) => false,
+    }
+}
+
+// Whether a law fits the part that ends at `top`.
+pub fn law_fits(table: &[u32], top: usize, law: Law) -> bool
+    requires { SomePart table.now top }
+    ensures { Tells result table.now top (fits (law_of (number_of law))) }
+{
     match law {
-        T1 => series::empty_item(table, top),
-        T2 => quantifiers::once_or_never(table, top),
-        T3 => quantifiers::quantified_empty(table, top),
-        T4 => quantifiers::quantified_assertion(table, top),
-        T5 => quantifiers::loop_of_loop(table, top),
-        T6 => series::equal_alternative(table, top),
-        T7 => series::void_part(table, top),
-        T8 => series::shared_first(table, top),
-        T9 => quantifiers::option_of_option(table, top),
-        T10 => quantifiers::loop_once_of_loop(table, top),
-        _ => false,
+        Law::T1 => has_wanted(table, top, SEQUENCE, Want::Empty),
+        Law::T2 => once_or_never(table, top),
+        Law::T3 => over(table, top, EMPTY),
+        Law::T4 => over(table, top, ASSERTION),
+        Law::T5 => loop_of_loop(table, top),
+        Law::T6 => has_wanted(table, top, ALTERNATION, Want::Equal),
+        Law::T7 => void_part(table, top),
+        Law::T8 => has_wanted(table, top, ALTERNATION, Want::Alike),
+        Law::T9 => option_of_option(table, top),
+        Law::T10 => loop_once_of_loop(table, top),
     }
 }

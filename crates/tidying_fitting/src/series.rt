@@ -1,12 +1,12 @@
-// The laws for the items of a sequence and the alternatives of an alternation: T1 and T6 to T8. Each looks for a part in a
-// series, and the parts of a series are passed from the last one back: its own record says where the one before it ends.
-ghost use Rattle.std.specs.Prelude.{[], ◌+◌, ◌≤◌, length};
+// The tests of the laws for the items of a sequence and the alternatives of an alternation, T1 and T6 to T8. Each looks for a part
+// in a series, and the parts of a series are passed from the last one back: its own record says where the one before it ends.
+ghost use Rattle.std.specs.Prelude.{[]};
 ghost use Rattle.tidying_laws.specs.Equal.{same};
-ghost use Rattle.tidying_laws.specs.Laws.{is_void, t1, t6, t7, t8};
+ghost use Rattle.tidying_laws.specs.Laws.{is_void, t7};
 ghost use Rattle.tidying_laws.specs.Alternatives.{past};
 ghost use Rattle.tidying_fitting.specs.Fitting.{fits};
 ghost use Rattle.table.specs.Stands.{SomePart};
-ghost use Rattle.tidying_fitting.specs.Parts.{SomeLast, Tells, TellsLast, TellsBoth, FirstEnds, Compares};
+ghost use Rattle.tidying_fitting.specs.Parts.{SomeLast, Tells, TellsLast, TellsBoth, FirstEnds};
 ghost use Rattle.tidying_fitting.specs.Wants.{wants, alike, goes, follows, repeats, wanted_end, has_wanted};
 
 use super::{Want, last_words, own, start};
@@ -17,11 +17,7 @@ fn is_void(table: &[u32], top: usize) -> bool
     requires { SomePart table.now top }
     ensures { Tells result table.now top is_void }
 {
-    let part = own(table, top);
-    if part.kind != BYTE_SET {
-        return false;
-    }
-    sets::same(last_words(table, top), sets::none())
+    own(table, top).kind == BYTE_SET && sets::same(last_words(table, top), sets::none())
 }
 
 // Where the first item of a part ends: the items of a sequence are passed from the last one back, any other part is its own.
@@ -34,10 +30,8 @@ fn first_item(table: &[u32], top: usize) -> usize
         return top;
     }
     let mut end = top - 1;
-    let mut left = whole.items;
-    while 1 < left {
+    for _ in 1..whole.items {
         end = start(table, end);
-        left -= 1;
     }
     end
 }
@@ -49,15 +43,9 @@ pub fn begins_alike(table: &[u32], one: usize, other: usize) -> bool
 {
     let a = first_item(table, one);
     let b = first_item(table, other);
-    let first = own(table, a);
-    if first.kind != BYTE_SET {
-        return false;
-    }
-    let second = own(table, b);
-    if second.kind != BYTE_SET {
-        return false;
-    }
-    sets::same(last_words(table, a), last_words(table, b))
+    own(table, a).kind == BYTE_SET
+        && own(table, b).kind == BYTE_SET
+        && sets::same(last_words(table, a), last_words(table, b))
 }
 
 // T8: whether the last part of a series begins as its left neighbour does.
@@ -65,25 +53,7 @@ fn follows(table: &[u32], top: usize, items: u32) -> bool
     requires { SomeLast table.now top items }
     ensures { TellsLast result table.now top items (λ front q. follows (past front []) q) }
 {
-    if items <= 1 {
-        return false;
-    }
-    begins_alike(table, start(table, top), top)
-}
-
-// Whether two stretches of words are the same.
-fn same_words(table: &[u32], one: usize, other: usize, words: usize) -> bool
-    requires { (one + words ≤ length table.now) × (other + words ≤ length table.now) }
-    ensures { Compares result table.now one other words }
-{
-    let mut k: usize = 0;
-    while k < words {
-        if table[one + k] != table[other + k] {
-            return false;
-        }
-        k += 1;
-    }
-    true
+    1 < items && begins_alike(table, start(table, top), top)
 }
 
 // Whether two parts are equal: their records are, word for word.
@@ -93,16 +63,8 @@ fn same_part(table: &[u32], one: usize, other: usize) -> bool
 {
     let from = start(table, one);
     let back = start(table, other);
-    let records = one - from;
-    if other - back != records {
-        return false;
-    }
-    same_words(
-        table,
-        RECORD_WORDS * from,
-        RECORD_WORDS * back,
-        RECORD_WORDS * records,
-    )
+    table[RECORD_WORDS * from..RECORD_WORDS * one]
+        == table[RECORD_WORDS * back..RECORD_WORDS * other]
 }
 
 // Whether the last part of a series equals an earlier one.
@@ -111,13 +73,11 @@ fn repeats(table: &[u32], top: usize, items: u32) -> bool
     ensures { TellsLast result table.now top items (λ front q. repeats (past front []) q) }
 {
     let mut end = start(table, top);
-    let mut left = items - 1;
-    while 0 < left {
+    for _ in 1..items {
         if same_part(table, top, end) {
             return true;
         }
         end = start(table, end);
-        left -= 1;
     }
     false
 }
@@ -127,11 +87,7 @@ fn goes(table: &[u32], top: usize, items: u32) -> bool
     requires { SomeLast table.now top items }
     ensures { TellsLast result table.now top items (λ front q. goes (past front []) q) }
 {
-    let part = own(table, top);
-    if part.highest != 0 {
-        return false;
-    }
-    repeats(table, top, items)
+    own(table, top).highest == 0 && repeats(table, top, items)
 }
 
 // Whether the last part of a series is what a law looks for.
@@ -147,50 +103,28 @@ fn wanted(table: &[u32], top: usize, items: u32, want: Want) -> bool
     }
 }
 
-// Where the leftmost such part among the parts of a part ends; 0 if there is none. They are passed from the last one back.
-pub fn leftmost(table: &[u32], top: usize, want: Want) -> usize
+// Where the leftmost such part among the parts of a part ends. They are passed from the last one back.
+pub fn leftmost(table: &[u32], top: usize, want: Want) -> Option<usize>
     requires { SomePart table.now top }
     ensures { Tells result table.now top (wanted_end want top) }
 {
     let mut end = top - 1;
-    let mut left = own(table, top).items;
-    let mut found: usize = 0;
-    while 0 < left {
+    let mut found = None;
+    for left in (1..=own(table, top).items).rev() {
         if wanted(table, end, left, want) {
-            found = end;
+            found = Some(end);
         }
         end = start(table, end);
-        left -= 1;
     }
     found
 }
 
 // Whether a part is of a kind, and among its parts is one that a law looks for.
-fn has_wanted(table: &[u32], top: usize, kind: u32, want: Want) -> bool
+pub(super) fn has_wanted(table: &[u32], top: usize, kind: u32, want: Want) -> bool
     requires { SomePart table.now top }
     ensures { Tells result table.now top (has_wanted kind want) }
 {
-    let part = own(table, top);
-    if part.kind != kind {
-        return false;
-    }
-    leftmost(table, top, want) != 0
-}
-
-// T1: an item of a sequence is empty.
-pub fn empty_item(table: &[u32], top: usize) -> bool
-    requires { SomePart table.now top }
-    ensures { Tells result table.now top (fits t1) }
-{
-    has_wanted(table, top, SEQUENCE, Want::Empty)
-}
-
-// T6: an alternative without groups equals an earlier one.
-pub fn equal_alternative(table: &[u32], top: usize) -> bool
-    requires { SomePart table.now top }
-    ensures { Tells result table.now top (fits t6) }
-{
-    has_wanted(table, top, ALTERNATION, Want::Equal)
+    own(table, top).kind == kind && leftmost(table, top, want).is_some()
 }
 
 // T7: an alternative is a set with no byte, or an item of a sequence without groups.
@@ -198,20 +132,6 @@ pub fn void_part(table: &[u32], top: usize) -> bool
     requires { SomePart table.now top }
     ensures { Tells result table.now top (fits t7) }
 {
-    if has_wanted(table, top, ALTERNATION, Want::Void) {
-        return true;
-    }
-    if !has_wanted(table, top, SEQUENCE, Want::Void) {
-        return false;
-    }
-    let part = own(table, top);
-    part.highest == 0
-}
-
-// T8: two neighbours among the alternatives begin with the same byte set.
-pub fn shared_first(table: &[u32], top: usize) -> bool
-    requires { SomePart table.now top }
-    ensures { Tells result table.now top (fits t8) }
-{
-    has_wanted(table, top, ALTERNATION, Want::Alike)
+    has_wanted(table, top, ALTERNATION, Want::Void)
+        || has_wanted(table, top, SEQUENCE, Want::Void) && own(table, top).highest == 0
 }

@@ -1,24 +1,60 @@
-// The numbers of the tidier's laws, in the order of specs/List.antt, and how many there are.
+// The tidier's laws, in the order of specs/List.antt. specs/ByNumber.antt has the number of each, which counts from 1.
 #![tactic(auto)]
 
-pub const T1: u32 = 1;
+ghost use Rattle.tidying_laws.specs.ByNumber.{Numbered};
 
-pub const T2: u32 = 2;
+#[derive(Clone, Copy, Debug, PartialEq, Eq)]
+pub enum Law {
+    T1,
+    T2,
+    T3,
+    T4,
+    T5,
+    T6,
+    T7,
+    T8,
+    T9,
+    T10,
+}
 
-pub const T3: u32 = 3;
+impl Law {
+    // Every law once, the lowest first.
+    pub const ALL: [Law; 10] = [
+        Law::T1,
+        Law::T2,
+        Law::T3,
+        Law::T4,
+        Law::T5,
+        Law::T6,
+        Law::T7,
+        Law::T8,
+        Law::T9,
+        Law::T10,
+    ];
+}
 
-pub const T4: u32 = 4;
+// A number that no law has.
+#[derive(Clone, Copy, Debug, PartialEq, Eq)]
+pub struct NoLaw(pub u32);
 
-pub const T5: u32 = 5;
+impl TryFrom<u32> for Law {
+    type Error = NoLaw;
 
-pub const T6: u32 = 6;
+    ghost try_from_gives = { Numbered };
 
-pub const T7: u32 = 7;
-
-pub const T8: u32 = 8;
-
-pub const T9: u32 = 9;
-
-pub const T10: u32 = 10;
-
-pub const LAWS: u32 = T10;
+    fn try_from(number: u32) -> Result<Self, NoLaw> {
+        match number {
+            1 => Ok(Law::T1),
+            2 => Ok(Law::T2),
+            3 => Ok(Law::T3),
+            4 => Ok(Law::T4),
+            5 => Ok(Law::T5),
+            6 => Ok(Law::T6),
+            7 => Ok(Law::T7),
+            8 => Ok(Law::T8),
+            9 => Ok(Law::T9),
+            10 => Ok(Law::T10),
+            _ => Err(NoLaw(number)),
+        }
+    }
+}

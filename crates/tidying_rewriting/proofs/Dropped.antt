@@ -1,4 +1,7 @@
 -- T6 and T7 in a table: where the alternative that goes stands, and what is said without it.
+use Rattle.std.proofs.Common.{Some}
+use mathlib.Core.Option.{some}
+use Rattle.std.specs.Option.{IsSome}
 use Rattle.std.specs.Prelude.{◌≡◌, List, ◌∷◌, ◌++◌, ℕ, ◌+◌, ◌-◌, ◌*◌, ◌≤◌, ◌<◌, length, get_or}
 use Rattle.std.proofs.Common.{sym, ap, subst, ◌∙◌, append_assoc, arith, length-append}
 use Rattle.meaning.specs.Node.{Node, Node.bset, Proper}
@@ -17,7 +20,7 @@ use Rattle.tidying_laws.specs.Void.{void}
 use Rattle.tidying_laws.specs.Laws.{t7}
 use Rattle.tidying_fitting.specs.Parts.{Tells}
 use Rattle.tidying_fitting.specs.Words.{start_of}
-use Rattle.tidying_fitting.specs.Places.{end_of}
+use Rattle.tidying_fitting.specs.Places.{Place, end_of}
 use Rattle.tidying_fitting.specs.Wants.{without, wanted_end}
 use Rattle.tidying_fitting.specs.declared.Want.{Want}
 use Rattle.tidying_fitting.specs.declared.Want.TheVariants.{Void}
@@ -89,9 +92,15 @@ module _ (want : Want) {table : List ℕ} {n top : ℕ} {before : List ℕ} {x y
   abbrev ended : ℕ
   ended = length l + length (concat_map skeleton drop.at.front) + record_count drop.at.part
 
-  drop_end : {end : ℕ} → Tells end table top (wanted_end want top) → end ≡ ended
-  drop_end t =
-      let told = t.by before x fit.placed.ends ∙ ap (end_of (top - record_count x)) drop.found in
+  -- There is one, and this is where it ends.
+  pub drop_some : {found : Place} → Tells found table top (wanted_end want top) → IsSome found
+  drop_some t = rw (t.by before x fit.placed.ends, drop.found)
+
+  drop_end : {end : ℕ} → Tells (Some end) table top (wanted_end want top) → end ≡ ended
+  drop_end {end} t =
+      let found : Some end ≡ end_of (top - record_count x) (some drop.at)
+      = t.by before x fit.placed.ends ∙ ap (end_of (top - record_count x)) drop.found in
+      let told : end ≡ top - record_count x + count_all drop.at.front + record_count drop.at.part = cc in
       omega (
         arith,
         told,
@@ -100,16 +109,16 @@ module _ (want : Want) {table : List ℕ} {n top : ℕ} {before : List ℕ} {x y
         front_count fit.placed drop.at.front drop.at.part drop.at.more drop.split,
       )
 
-  drop_ends : {end : ℕ} → Tells end table top (wanted_end want top)
+  drop_ends : {end : ℕ} → Tells (Some end) table top (wanted_end want top)
       → Ends table end (before ++ concat_map records drop.at.front) drop.at.part
   drop_ends t =
       rw (drop_end t) (part_ends fit.placed drop.at.front drop.at.part drop.at.more drop.split)
 
-  pub drop_there : {end : ℕ} → Tells end table top (wanted_end want top) → SomePart table end
+  pub drop_there : {end : ℕ} → Tells (Some end) table top (wanted_end want top) → SomePart table end
   drop_there t =
       record { before = before ++ concat_map records drop.at.front; part = drop.at.part; ends = drop_ends t }
 
-  pub drop_at : {end from items : ℕ} → Tells end table top (wanted_end want top)
+  pub drop_at : {end from items : ℕ} → Tells (Some end) table top (wanted_end want top)
       → Tells from table end (start_of end) → items ≡ get_or table (record_words * (top - 1) + items_word) 0
       → DropAt want n top x y l end from items
   drop_at {end} {from} {items} t s e =
@@ -188,7 +197,7 @@ module _ {want : Want} {table table' : List ℕ} {n top n' end from items : ℕ}
   }
 
 pub drops : (want : Want) {table table₁ table₂ : List ℕ} {n top n₁ n₂ end from items : ℕ}
-    → Tells end table top (wanted_end want top) → Tells from table end (start_of end)
+    → Tells (Some end) table top (wanted_end want top) → Tells from table end (start_of end)
     → items ≡ get_or table (record_words * (top - 1) + items_word) 0 → Cut table table₁ n from (end - from) n₁
     → Rejoins table₁ table₂ n₁ (top + n₁ - n) (items - 1) n₂ → Rewrites (dropping want) table table₂ n top n₂
 drops want t s e cut c = record {

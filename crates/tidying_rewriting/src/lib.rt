@@ -60,19 +60,18 @@ pub fn drop_empty(table: &mut [u32], n: usize, top: usize) -> usize
     requires { SomeFitting t1 table.old n top }
     ensures { Rewrites t1 table.old table.new n top result }
 {
-    let mut left = word(table, top, ITEMS);
+    let items = word(table, top, ITEMS);
     let mut end = top - 1;
     let mut count = n;
     let mut kept: u32 = 0;
-    while 0 < left {
-        left -= 1;
+    for _ in 0..items {
         if word(table, end, KIND) == EMPTY {
             end -= 1;
             count = cut(table, count, end, 1);
-            continue;
+        } else {
+            end -= word(table, end, RECORDS) as usize;
+            kept += 1;
         }
-        end -= word(table, end, RECORDS) as usize;
-        kept += 1;
     }
     rejoin(table, count, top + count - n, kept)
 }
@@ -104,7 +103,7 @@ pub fn drop_alternative(table: &mut [u32], n: usize, top: usize, sought: Want) -
     ensures { Rewrites (dropping sought) table.old table.new n top result }
 {
     let items = word(table, top, ITEMS);
-    let end = leftmost(table, top, sought);
+    let end = leftmost(table, top, sought).unwrap();
     let from = start(table, end);
     let count = cut(table, n, from, end - from);
     rejoin(table, count, top + count - n, items - 1)

@@ -1,6 +1,6 @@
 -- A part merges: what is known of it and its parent, and what becomes of their tokens. Assumes nothing.
 use mathlib.Core.Path.{◌≡◌, refl, sym, ap, ap₂, subst, ◌∙◌}
-use mathlib.Core.Logic.{◌⊎◌, ⊎_elim}
+use mathlib.Core.Logic.{⊎_elim}
 use mathlib.Core.Option.{none, some}
 use mathlib.Core.List.{List, [], ◌∷◌, ◌++◌, append_assoc}
 use Prim.Native.Nat.{ℕ, suc, ◌+◌, ◌-◌, ◌*◌, ◌≤◌, ◌<◌}
@@ -134,10 +134,9 @@ stays {table} {n} {root} differs = record { by = go; above = refl; fewer = omega
         rw (single.0, single.1) u.says
 
 module _ {table : List ℕ} {n root : ℕ} where
-  pub stays_other : (get_or table (record_words * root) 0 < 5) ⊎ (6 < get_or table (record_words * root) 0)
+  pub stays_other : (get_or table (record_words * root) 0 ≡ 5 → ⊥) → (get_or table (record_words * root) 0 ≡ 6 → ⊥)
       → Merged table table n root n
-  stays_other h = stays (λ before r k others later rest u e.
-      ⊎_elim (λ w. omega (arith, own_kind u, row_low k)) (λ w. omega (arith, own_kind u, row_high k)) h)
+  stays_other h g = stays (λ before r k others later rest u e. omega (arith, own_kind u, row_low k, row_high k))
 
   pub stays_whole : {at : ℕ} → Parented table n root at → at ≡ n → Merged table table n root n
   stays_whole p h = stays (λ before r k others later rest u e.

@@ -1,5 +1,5 @@
 -- What the parent of a part is, and what it is for a part to merge: its own record goes where its parent is a row of its kind.
-use Rattle.std.specs.Prelude.{◌≡◌, List, ◌++◌, ℕ, suc, ◌+◌, ◌*◌, ◌≤◌, length, drop}
+use Rattle.std.specs.Prelude.{◌≡◌, List, ◌++◌, ℕ, suc, ◌+◌, ◌*◌, ◌≤◌, ◌<◌, length, drop, Option, Some, None}
 use Rattle.std.proofs.Math.Option.{none}
 use Rattle.meaning.specs.Node.{Node}
 use Rattle.table.specs.Table.{record_words}
@@ -14,6 +14,15 @@ use Rattle.tidying_shapes.specs.Tokens.{Says}
 pub record Parented (table : List ℕ) (n part at : ℕ) : Type 0 where
   pub by : (l m : List Token) → length l ≡ suc part → Says table n (l ++ m) → at ≡ suc part + climb 0 m
   pub within : at ≤ n
+
+-- Where the record of a parent is, past all n if there is none; and that it is one of the n.
+abbrev pub place_of : ℕ → Option ℕ → ℕ
+place_of n None = n
+place_of n (Some at) = at
+
+abbrev pub Inside : ℕ → Option ℕ → Type 0
+Inside n None = Unit {0}
+Inside n (Some at) = at < n
 
 -- How many items the record of a part's parent has, where the part gives so many.
 abbrev pub items_of : Parent none → ℕ → ℕ

@@ -6,7 +6,7 @@ ghost use Rattle.std.specs.Prelude.{◌≡◌, ◌+◌, ◌-◌, ◌*◌, ◌<�
 ghost use Rattle.table.specs.Table.{record_words};
 ghost use Rattle.tidying_shapes.specs.Skeleton.{token_of};
 ghost use Rattle.tidying_shapes.specs.Edits.{Removed, Inserted, Stamped, Counted};
-ghost use Rattle.tidying_shapes.specs.Merging.{Parented, SomeUnmerged, Merged};
+ghost use Rattle.tidying_shapes.specs.Merging.{Parented, place_of, Inside, SomeUnmerged, Merged};
 ghost use Rattle.tidying_shapes.specs.Fresh.{SomeSaid, Refreshed};
 
 use table::{ALTERNATION, ITEMS, OPERAND, RECORD_WORDS, SEQUENCE};
@@ -16,28 +16,18 @@ pub fn remove(table: &mut [u32], n: usize, at: usize, count: usize)
     requires { (at + count ≤ n) × (record_words * n ≤ length table.old) }
     ensures { Removed table.old table.new n at count }
 {
-    let to = RECORD_WORDS * at;
-    let from = RECORD_WORDS * (at + count);
-    let words = RECORD_WORDS * (n - count - at);
-    let mut k: usize = 0;
-    while k < words {
-        table[to + k] = table[from + k];
-        k += 1;
-    }
+    table.copy_within(
+        RECORD_WORDS * (at + count)..RECORD_WORDS * n,
+        RECORD_WORDS * at,
+    );
 }
 
-// Room for a record at `at`: the words from there on move up, the last one first.
+// Room for a record at `at`: the words from there on move up.
 pub fn insert(table: &mut [u32], n: usize, at: usize)
     requires { (at ≤ n) × (record_words * (n + 1) ≤ length table.old) }
     ensures { Inserted table.old table.new n at }
 {
-    let from = RECORD_WORDS * at;
-    let to = RECORD_WORDS * (at + 1);
-    let mut k = RECORD_WORDS * (n - at);
-    while 0 < k {
-        k -= 1;
-        table[to + k] = table[from + k];
-    }
+    table.copy_within(RECORD_WORDS * at..RECORD_WORDS * n, RECORD_WORDS * (at + 1));
 }
 
 // The record at `at` becomes one of this kind, operand, number of items and last eight words.
@@ -61,22 +51,21 @@ pub fn set_items(table: &mut [u32], at: usize, items: u32)
 }
 
 // The record that a part, whose own record is `part`, is an item of: the first behind it that takes more items than there are
-// parts since; n if there is none.
-pub fn parent(table: &[u32], n: usize, part: usize) -> usize
+// parts since.
+pub fn parent(table: &[u32], n: usize, part: usize) -> Option<usize>
     requires { (part < n) × (record_words * n ≤ length table.now) }
-    ensures { Parented table.now n part result }
+    ensures parented { Parented table.now n part (place_of n result) }
+    ensures inside { Inside n result }
 {
-    let mut at = part + 1;
     let mut since: usize = 0;
-    while at < n {
+    for at in part + 1..n {
         let items = table[RECORD_WORDS * at + ITEMS] as usize;
         if since < items {
-            return at;
+            return Some(at);
         }
         since = since + 1 - items;
-        at += 1;
     }
-    at
+    None
 }
 
 // A part, whose own record is `root`, becomes a part of its parent: where that is a row of the part's own kind, its own record
@@ -86,16 +75,12 @@ pub fn merge(table: &mut [u32], n: usize, root: usize) -> usize
     ensures { Merged table.old table.new n root result }
 {
     let kind = table[RECORD_WORDS * root];
-    if kind < SEQUENCE {
+    if kind != SEQUENCE && kind != ALTERNATION {
         return n;
     }
-    if ALTERNATION < kind {
+    let Some(at) = parent(table, n, root) else {
         return n;
-    }
-    let at = parent(table, n, root);
-    if at == n {
-        return n;
-    }
+    };
     if table[RECORD_WORDS * at] != kind {
         return n;
     }
@@ -110,13 +95,11 @@ pub fn refresh(table: &mut [u32], n: usize)
     requires { SomeSaid table.old n }
     ensures { Refreshed table.old table.new n }
 {
-    let mut at: usize = 0;
-    while at < n {
+    for at in 0..n {
         let kind = table[RECORD_WORDS * at];
         let operand = table[RECORD_WORDS * at + OPERAND];
         let items = table[RECORD_WORDS * at + ITEMS];
         let last = table::last_words(table, at + 1);
         table::put(table, at, kind, operand, items, last);
-        at += 1;
     }
 }

@@ -1,5 +1,5 @@
 -- Where the run of an alternation that T8 fits stands in a table.
-use Rattle.std.specs.Prelude.{◌≡◌, refl, List, [], ◌∷◌, ◌++◌, ℕ, ◌+◌, ◌-◌, length}
+use Rattle.std.specs.Prelude.{Some, IsSome, ◌≡◌, refl, List, [], ◌∷◌, ◌++◌, ℕ, ◌+◌, ◌-◌, length}
 use Rattle.std.proofs.Common.{sym, ap, subst, ◌∙◌, append_assoc, arith}
 use Rattle.std.proofs.Math.Option.{some}
 use Rattle.meaning.specs.Node.{Node}
@@ -12,7 +12,7 @@ use Rattle.table.specs.Roots.{among_ends}
 use Rattle.table.specs.Roots.{inside}
 use Rattle.tidying_fitting.specs.Parts.{Tells, room}
 use Rattle.tidying_fitting.specs.Words.{start_of}
-use Rattle.tidying_fitting.specs.Places.{end_of}
+use Rattle.tidying_fitting.specs.Places.{Place, end_of}
 use Rattle.tidying_fitting.specs.Wants.{wanted_end}
 use Rattle.tidying_fitting.specs.declared.Want.TheVariants.{Alike}
 use Rattle.tidying_sharing.specs.Runs.{Behind, SomeBehind, RunEnds}
@@ -59,11 +59,17 @@ module _ {table : List ℕ} {top : ℕ} {before : List ℕ} {x y : Node} (s : Sh
   first_ends : Ends table (top - 1 - count_all (k.second ∷ k.more)) (before ++ concat_map records k.front) k.first
   first_ends = among_ends k.front k.first (k.second ∷ k.more) series
 
-  module _ {second : ℕ} (t : Tells second table top (wanted_end Alike top)) where
+  -- There is a second alternative of the run, and this is where it ends.
+  pub some_second : {found : Place} → Tells found table top (wanted_end Alike top) → IsSome found
+  some_second t = rw (t.by before x s.ends, k.found)
+
+  module _ {second : ℕ} (t : Tells (Some second) table top (wanted_end Alike top)) where
     second_at : top - 1 - count_all k.more ≡ second
     second_at =
-        let told : second ≡ top - record_count x + count_all (k.front ++ (k.first ∷ [])) + record_count k.second
+        let found : Some second
+        ≡ Some (top - record_count x + count_all (k.front ++ (k.first ∷ [])) + record_count k.second)
         = t.by before x s.ends ∙ ap (end_of (top - record_count x)) k.found in
+        let told : second ≡ top - record_count x + count_all (k.front ++ (k.first ∷ [])) + record_count k.second = cc in
         omega (arith, all, count_append k.front (k.first ∷ []), (room s.ends).few)
 
     pub second_there : SomePart table second
@@ -116,7 +122,7 @@ module _ {table : List ℕ} {top : ℕ} {before : List ℕ} {x y : Node} (s : Sh
             omega (arith, started, all, first_at_lem, (room s.ends).few)
 
 -- So it is found.
-pub located : {table : List ℕ} {top second first from stop : ℕ} → Tells second table top (wanted_end Alike top)
+pub located : {table : List ℕ} {top second first from stop : ℕ} → Tells (Some second) table top (wanted_end Alike top)
     → Tells first table second (start_of second) → Tells from table first (start_of first) → RunEnds stop table (top - 1) first
     → Located from stop table top
 located t u v e = record {

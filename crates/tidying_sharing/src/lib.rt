@@ -90,13 +90,13 @@ fn run_end(table: &[u32], top: usize, first: usize) -> usize
 {
     let mut end = top;
     let mut stop = top;
+    // Each part's own record says where the part before it ends, so no range counts them.
     while first < end {
         let alike = begins_alike(table, first, end);
         end = start(table, end);
-        if alike {
-            continue;
+        if !alike {
+            stop = end;
         }
-        stop = end;
     }
     stop
 }
@@ -107,7 +107,7 @@ fn leftmost_run(table: &[u32], top: usize) -> Run
     requires { SomeSharing table.now top }
     ensures { Located result.from result.stop table.now top }
 {
-    let second = leftmost(table, top, Want::Alike);
+    let second = leftmost(table, top, Want::Alike).unwrap();
     let first = start(table, second);
     let from = start(table, first);
     Run {
@@ -125,6 +125,7 @@ fn shorten(table: &mut [u32], n: usize, from: usize, stop: usize) -> Shortened
     let mut count = n;
     let mut trimmed: u32 = 0;
     let mut parts: u32 = 0;
+    // As above: how many alternatives there are is known only when all are passed.
     while from < end {
         let at = start(table, end);
         let left = trim_at(table, count, at, end);
@@ -162,9 +163,7 @@ pub fn share(table: &mut [u32], n: usize, top: usize) -> usize
     ensures { Rewrites t8 table.old table.new n top result }
 {
     let items = word(table, top, ITEMS);
-    let run = leftmost_run(table, top);
-    let from = run.from;
-    let stop = run.stop;
+    let Run { from, stop } = leftmost_run(table, top);
     let set = table::last_words(table, from + 1);
     let left = shorten(table, n, from, stop);
     let count = rejoin(table, left.n, top + left.n - n, items - left.trimmed + 1);

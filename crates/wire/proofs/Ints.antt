@@ -1,14 +1,15 @@
 -- Signed numbers of 32 bits by their bits, both ways round, alone and in lists.
 use Rattle.std.specs.Prelude.{◌≡◌, refl, List, [], ◌∷◌, ◌++◌, map, ℕ, zero, suc, ◌+◌, ◌*◌, ◌-◌, ◌^◌, ◌≤◌, ◌<◌, ltb, ℤ, pos, negsuc, ◌+ℤ◌, ◌-ℤ◌, length, get_or, take}
-use Rattle.std.proofs.Common.{sym, ap, ◌∙◌, add-one, arith, lt-ltb, le-ltb, ltb-true, take-suc, to_z-of_z}
+use Rattle.std.proofs.Common.{sym, ap, ◌∙◌, arith, lt-ltb, le-ltb, ltb-true, to_z-of_z}
 use mathlib.Core.Bool.{Bool, true, false, cond}
-use Rattle.std.proofs.lemmas.List.{map-append, length-map}
+use Rattle.std.proofs.lemmas.List.{length-map}
 use Rattle.std.specs.Int.Signed.{mag, lt_z}
 use Rattle.std.specs.Int.{w32}
 use mir.Val.{sel, to_z, of_z, SFits}
 use Rattle.std.proofs.Math.Facts.{of_z-to_z, sfits_to_z, Fits-of_z}
-use Rattle.wire.specs.Wire.{word_of4, words_of, bytes_of_word, bytes_of_words, bits_of, int_of, bytes_of_ints, ints_of}
-use Rattle.wire.specs.Words.{words_more, words_length, bytes_snoc, words_back, bytes_back, word_fits}
+use Rattle.wire.specs.Wire.{word_of4, words_of, bytes_of_word, bytes_of_words, bits_of, int_of, bytes_of_ints, ints_of, loaded, stored}
+use Rattle.wire.proofs.Passing.{loaded_more, stored_more, loaded_back}
+use Rattle.wire.specs.Words.{words_length, words_back, bytes_back}
 
 -- The bits are the machine's, those of x as u32, and so is the number that is read from them.
 pub bits_machine : (z : ℤ) → bits_of z ≡ of_z w32 z
@@ -55,14 +56,26 @@ int_lowered w h k = rw (le-ltb w (2 ^ 31) h, lt-ltb w 4294967296 k)
 -- The bytes of one number more.
 pub ints_more : (ints : List ℤ) (n w : ℕ) → w ≡ bits_of (get_or ints n (pos 0)) → n < length ints
     → bytes_of_ints (take n ints) ++ bytes_of_word w ≡ bytes_of_ints (take (n + 1) ints)
-ints_more ints n w e h =
-    rw e (sym (rw (add-one, take-suc ints n (pos 0), map-append)
-    (bytes_snoc (map bits_of (take n ints)) (bits_of (get_or ints n (pos 0))))))
+ints_more ints n w e h = rw e (stored_more bits_of ints n (pos 0) h)
 
 -- One number more of bytes.
 pub read_more : (bytes : List ℕ) (n : ℕ) {z : ℤ} → z ≡ int_of (word_of4 bytes n) → ints_of bytes n ++ z ∷ [] ≡ ints_of bytes (n + 1)
-read_more bytes n e =
-    rw e (sym (map-append int_of (words_of bytes n) (word_of4 bytes n ∷ [])) ∙ ap (map int_of) (words_more bytes n refl))
+read_more = loaded_more int_of
+
+-- Numbers that are passed as the machine's bits are passed as their bits.
+pub loaded_ints : (bytes : List ℕ) (n : ℕ) → loaded (to_z w32) bytes n ≡ ints_of bytes n
+loaded_ints bytes n = by (words_of bytes n)
+  where
+    by : (l : List ℕ) → map (to_z w32) l ≡ map int_of l
+    by [] = refl
+    by (w ∷ l) = rw (int_machine w, by l)
+
+pub stored_ints : (ints : List ℤ) → stored (of_z w32) ints ≡ bytes_of_ints ints
+stored_ints ints = ap bytes_of_words (by ints)
+  where
+    by : (l : List ℤ) → map (of_z w32) l ≡ map bits_of l
+    by [] = refl
+    by (z ∷ l) = rw (bits_machine z, by l)
 
 pub ints_length : (bytes : List ℕ) (n : ℕ) → length (ints_of bytes n) ≡ n
 ints_length bytes n = length-map (words_of bytes n) int_of ∙ words_length bytes n
@@ -84,15 +97,7 @@ ints_back ints rest small =
     ∙ ap (map int_of) (words_back (map bits_of ints) rest (bits_of_map ints small)) ∙ ints_of_map ints small
 
 pub words_of_map : (bytes : List ℕ) (n : ℕ) → ((k : ℕ) → get_or bytes k 0 < 256) → map bits_of (ints_of bytes n) ≡ words_of bytes n
-unfolding words_of
-words_of_map bytes zero small = refl
-words_of_map bytes (suc n) small =
-    rw (
-      map-append int_of (words_of bytes n),
-      map-append bits_of (map int_of (words_of bytes n)),
-      words_of_map bytes n small,
-      bits_back (word_of4 bytes n) (word_fits bytes n small),
-    )
+words_of_map = loaded_back bits_of int_of bits_back
 
 -- Bytes to signed numbers and back.
 pub ints_bytes : (bytes : List ℕ) (n : ℕ) → ((k : ℕ) → get_or bytes k 0 < 256) → 4 * n ≤ length bytes

@@ -1,13 +1,14 @@
 -- Words and signed numbers written over bytes: what was there is written back as it was, and only what is new is seen.
-use Rattle.std.specs.Prelude.{◌≡◌, ℕ, zero, suc, ◌*◌, ◌≤◌, ◌<◌, ℤ, length, get_or, take, drop}
+use Rattle.std.specs.Prelude.{◌≡◌, ℕ, zero, suc, ◌*◌, ◌^◌, ◌≤◌, ◌<◌, ℤ, length, get_or, take, drop}
 use Rattle.std.proofs.Math.Path.{refl}
 use Rattle.std.proofs.Common.{sym, ap, ◌∙◌, arith, take-append-drop, length-append, length-drop, length-take-le}
 use mathlib.Core.List.{List, [], ◌∷◌, ◌++◌, map, map-append, append_assoc}
 use Rattle.std.proofs.lemmas.List.{length-map, drop-append-le}
 use Rattle.std.proofs.Math.Seq.{drop-nil}
-use Rattle.wire.specs.Wire.{words_of, bytes_of_word, bytes_of_words, bits_of, bytes_of_ints, ints_of, written}
+use Rattle.wire.specs.Wire.{words_of, bytes_of_word, bytes_of_words, bits_of, int_of, bytes_of_ints, ints_of, loaded, stored, written}
 use Rattle.wire.specs.Words.{bytes_length, bytes_back}
-use Rattle.wire.proofs.Ints.{words_of_map}
+use Rattle.wire.proofs.Ints.{bits_back}
+use Rattle.wire.proofs.Passing.{loaded_back}
 
 -- A new front, with what followed it written back.
 written_over : (bytes x : List ℕ) (w n : ℕ) → length x ≡ w → w ≤ n → n ≤ length bytes
@@ -55,13 +56,23 @@ module _ (bytes : List ℕ) (n : ℕ) (small : (k : ℕ) → get_or bytes k 0 < 
   unfolding bytes_of_words
   words_same = words_over [] 0 refl (omega arith)
 
-  -- The same of signed numbers.
+  -- The same of numbers that are passed as words, where no word is lost.
+  module _ {A : Type 0} (bits : A → ℕ) (of_bits : ℕ → A) (back : (w : ℕ) → w < 2 ^ 32 → bits (of_bits w) ≡ w) where
+    pub loaded_over : (x : List A) (w : ℕ) → length x ≡ w → w ≤ n
+        → written (stored bits (x ++ drop w (loaded of_bits bytes n))) bytes ≡ written (stored bits x) bytes
+    loaded_over x w e k =
+        ap (λ t. written (bytes_of_words t) bytes) (map-append bits x (drop w (loaded of_bits bytes n))
+        ∙ ap (λ t. map bits x ++ t)
+        (drop_map bits w (loaded of_bits bytes n) ∙ ap (drop w) (loaded_back bits of_bits back bytes n small)))
+        ∙ words_over (map bits x) w (length-map x bits ∙ e) k
+
+    pub loaded_same : written (stored bits (loaded of_bits bytes n)) bytes ≡ bytes
+    loaded_same = ap (λ t. written (bytes_of_words t) bytes) (loaded_back bits of_bits back bytes n small) ∙ words_same
+
+  -- And so of signed numbers.
   pub ints_over : (x : List ℤ) (w : ℕ) → length x ≡ w → w ≤ n
       → written (bytes_of_ints (x ++ drop w (ints_of bytes n))) bytes ≡ written (bytes_of_ints x) bytes
-  ints_over x w e k =
-      ap (λ t. written (bytes_of_words t) bytes) (map-append bits_of x (drop w (ints_of bytes n))
-      ∙ ap (λ t. map bits_of x ++ t) (drop_map bits_of w (ints_of bytes n) ∙ ap (drop w) (words_of_map bytes n small)))
-      ∙ words_over (map bits_of x) w (length-map x bits_of ∙ e) k
+  ints_over = loaded_over bits_of int_of bits_back
 
   pub ints_same : written (bytes_of_ints (ints_of bytes n)) bytes ≡ bytes
-  ints_same = ap (λ t. written (bytes_of_words t) bytes) (words_of_map bytes n small) ∙ words_same
+  ints_same = loaded_same bits_of int_of bits_back

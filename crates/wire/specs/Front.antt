@@ -1,9 +1,8 @@
 -- A list that is filled from the front: what a load or a store leaves, and how it goes on.
-use Rattle.std.specs.Prelude.{◌≡◌, refl, List, [], ◌∷◌, ◌++◌, ℕ, suc, ◌+◌, ◌*◌, ◌≤◌, ◌<◌, length, get_or, drop, set}
-use Rattle.std.proofs.Common.{sym, ap, ◌∙◌, append-nil, append_assoc, add-one, arith, length-append, length-drop, drop-cons}
-use Rattle.std.proofs.Math.Seq.{drop-length, append_snoc}
-use Rattle.std.proofs.lemmas.List.{set_at}
-use Rattle.std.proofs.lemmas.List.Edits.{sets}
+use Rattle.std.specs.Prelude.{◌≡◌, refl, List, [], ◌∷◌, ◌++◌, ℕ, suc, ◌+◌, ◌≤◌, ◌<◌, length, get_or, take, drop, set}
+use Rattle.std.proofs.Common.{sym, ap, ap₂, ◌∙◌, append-nil, append_assoc, add-one, arith, length-append, length-drop, drop-cons}
+use Rattle.std.proofs.Math.Seq.{drop-length, append_snoc, take-append_seam, drop-append_seam}
+use Rattle.std.proofs.lemmas.List.{set_at, drop-drop}
 
 -- A list's first n elements are replaced, and the later ones are as they were.
 pub record Front {A : Type 0} (before after front : List A) (n : ℕ) : Type 0 where
@@ -30,28 +29,32 @@ module _ {A : Type 0} where
     inside = omega arith;
   }
 
-  -- A run of elements more.
-  pub front_run : {d l x : List A} {n : ℕ} (vs : List A) → Front d l x n → n + length vs ≤ length d
-      → Front d (sets l n vs) (x ++ vs) (n + length vs)
-  front_run {x = x} [] f h = front_as f (sym (append-nil x)) (omega arith)
-  front_run {d = d} {l = l} {x = x} {n = n} (v ∷ vs) f h =
-      front_as (front_run {l = set l n v} vs (front_as (front_more f v (omega arith)) refl (add-one n)) (omega arith))
-      (append_assoc x (v ∷ []) vs) (omega arith)
-
   -- The length is kept.
   pub front_length : {d l x : List A} {n : ℕ} → Front d l x n → length l ≡ length d
   front_length {d} {l} {x} {n} f =
       ap length f.all ∙ length-append x (drop n d) ∙ omega (arith, f.long, f.inside, length-drop n d)
 
-  -- One more of a growing front, and four more.
+  -- One more of a growing front.
   pub front_next : {d l : List A} {n : ℕ} (front : ℕ → List A) (v : A) → Front d l (front n) n → n < length l
       → front n ++ v ∷ [] ≡ front (n + 1) → Front d (set l n v) (front (n + 1)) (n + 1)
   front_next front v f h e = front_as (front_more f v (omega (arith, front_length f))) e refl
 
-  pub front_four : {d l l' : List A} {n : ℕ} (front : ℕ → List A) (vs : List A) → Front d l (front n) (4 * n) → length vs ≡ 4
-      → 4 * (n + 1) ≤ length d → l' ≡ sets l (4 * n) vs → front n ++ vs ≡ front (n + 1)
-      → Front d l' (front (n + 1)) (4 * (n + 1))
-  front_four front vs f k h s e = rw s (front_as (front_run vs f (omega arith)) e (omega arith))
+  -- What stands right behind the front is written over.
+  pub front_part : {d l x y : List A} {n m k : ℕ} (vs : List A) → Front d l x n → k ≡ length vs → n + k ≡ m → m ≤ length d
+      → x ++ vs ≡ y → Front d (take n l ++ (vs ++ drop k (drop n l))) y m
+  front_part {d} {l} {x} {y} {n} {m} {k} vs f e p h s =
+      let split = f.all ∙ ap (λ t. x ++ drop t d) (sym f.long) in
+      let before : take n l ≡ x
+      = ap (λ t. take t l) (sym f.long) ∙ ap (take (length x)) split ∙ take-append_seam x (drop (length x) d) in
+      let behind : drop n l ≡ drop n d
+      = ap (λ t. drop t l) (sym f.long) ∙ ap (drop (length x)) split ∙ drop-append_seam x (drop (length x) d)
+      ∙ ap (λ t. drop t d) f.long in
+      record {
+        all = ap₂ (λ t r. t ++ (vs ++ drop k r)) before behind ∙ sym (append_assoc x vs (drop k (drop n d)))
+            ∙ ap₂ ◌++◌ s (drop-drop k n d ∙ ap (λ t. drop t d) p);
+        long = ap length (sym s) ∙ length-append x vs ∙ omega (arith, f.long);
+        inside = h;
+      }
 
   -- All are replaced.
   pub front_whole : {d l : List A} {n : ℕ} (front : ℕ → List A) → Front d l (front n) n → length l ≤ n → l ≡ front (length d)
@@ -62,12 +65,3 @@ module _ {A : Type 0} where
   -- Those behind the front are as they were.
   pub front_written : {d l x y : List A} {n : ℕ} → Front d l x n → x ≡ y → l ≡ y ++ drop (length y) d
   front_written {d} {l} {x} {y} {n} f e = rw (← e) (f.all ∙ ap (λ k. x ++ drop k d) (sym f.long))
-
-  -- Four stores one behind the other.
-  pub stored_four : (l : List A) (at : ℕ) (a b c d : A)
-      → set (set (set (set l at a) (at + 1) b) (at + 2) c) (at + 3) d ≡ sets l at (a ∷ b ∷ c ∷ d ∷ [])
-  stored_four l at a b c d =
-      let one : at + 1 ≡ suc at = omega arith in
-      let two : at + 2 ≡ suc (suc at) = omega arith in
-      let three : at + 3 ≡ suc (suc (suc at)) = omega arith in
-      rw (one, two, three)

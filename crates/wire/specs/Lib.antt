@@ -1,3 +1,4 @@
 pub mod Wire
 pub mod Front
 pub mod Words
+pub mod Fours

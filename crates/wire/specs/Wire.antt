@@ -45,6 +45,13 @@ bytes_of_ints l = bytes_of_words (map bits_of l)
 abbrev pub ints_of : List ℕ → ℕ → List ℤ
 ints_of bytes n = map int_of (words_of bytes n)
 
+-- The bytes of numbers one after the other, where each is passed as the word of its bits; and the first n numbers of bytes.
+abbrev pub stored : {A : Type 0} → (A → ℕ) → List A → List ℕ
+stored bits l = bytes_of_words (map bits l)
+
+abbrev pub loaded : {A : Type 0} → (ℕ → A) → List ℕ → ℕ → List A
+loaded of_bits bytes n = map of_bits (words_of bytes n)
+
 -- Bytes with others written over the first of them; later ones stay.
 abbrev pub written : List ℕ → List ℕ → List ℕ
 written front bytes = front ++ drop (length front) bytes

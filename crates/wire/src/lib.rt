@@ -1,112 +1,82 @@
 // Words of 32 bits as bytes, four to a word, low byte first: how a program in another language hands words over.
 #![tactic(auto)]
 
-ghost use Rattle.std.specs.Prelude.{◌≡◌, ◌+◌, ◌*◌, ◌≤◌, ◌<◌, length};
-ghost use Rattle.std.proofs.lemmas.List.Edits.{sets};
-ghost use Rattle.wire.specs.Wire.{word_of4, words_of, bytes_of_word, bytes_of_words, bits_of, int_of, bytes_of_ints, ints_of};
-ghost use Rattle.wire.specs.Wire.{written};
+ghost use Rattle.std.specs.Prelude.{◌≡◌, refl, ℕ, ◌*◌, ◌^◌, ◌≤◌, ◌<◌, length};
+ghost use Rattle.std.specs.Int.{w32, cast_unsigned, cast_signed};
+ghost use Rattle.std.proofs.lemmas.Int.{of_z-to_z};
+ghost use Rattle.wire.specs.Wire.{word_of4, bytes_of_word, loaded, stored, written};
 
-// In two's complement the numbers from HALF on are those below zero, WHOLE higher.
-const HALF: u32 = 2147483648;
+// A number that is passed as the four bytes of a word.
+pub trait Word: Copy {
+    // The number's word, and the number of a word.
+    ghost bits: { Self → ℕ };
 
-const WHOLE: i64 = 4294967296;
+    ghost of_bits: { ℕ → Self };
 
-// A byte as a number.
-fn wide(byte: u8) -> u32
-    ensures { (result ≡ byte) × (result < 256) }
-{
-    byte as u32
+    fn to_bytes(self) -> [u8; 4]
+        ensures { result ≡ bytes_of_word (bits self) };
+
+    fn from_bytes(bytes: [u8; 4]) -> Self
+        ensures { result ≡ of_bits (word_of4 bytes 0) };
+
+    // No word is lost.
+    ghost back: { (n : ℕ) → n < 2 ^ 32 → bits (of_bits n) ≡ n };
 }
 
-// Word i of bytes. Asked: its four bytes.
-fn word_at(bytes: &[u8], i: usize) -> u32
-    requires { 4 * i + 4 ≤ length bytes.now }
-    ensures { result ≡ word_of4 bytes.now i }
-{
-    let at = 4 * i;
-    let low = wide(bytes[at]) + 256 * wide(bytes[at + 1]);
-    let high = wide(bytes[at + 2]) + 256 * wide(bytes[at + 3]);
-    low + 65536 * high
-}
+// A word is itself.
+#[tactic(auto, using(crate::proofs::Passing::bytes_machine, crate::proofs::Passing::word_machine))]
+impl Word for u32 {
+    ghost bits = { λ n. n };
 
-// The four bytes of word i are stored. Asked: room for them.
-fn put_word(bytes: &mut [u8], i: usize, word: u32)
-    requires { 4 * i + 4 ≤ length bytes.old }
-    ensures { bytes.new ≡ sets bytes.old (4 * i) (bytes_of_word word) }
-{
-    let at = 4 * i;
-    bytes[at] = (word % 256) as u8;
-    bytes[at + 1] = (word / 256 % 256) as u8;
-    bytes[at + 2] = (word / 65536 % 256) as u8;
-    bytes[at + 3] = (word / 16777216 % 256) as u8;
-}
+    ghost of_bits = { λ n. n };
 
-// The bits of a signed number, in two's complement.
-fn bits_of(value: i32) -> u32
-    ensures { result ≡ bits_of value }
-{
-    if value < 0 {
-        let long = value as i64;
-        return (long + WHOLE) as u32;
+    ghost back = { λ n _. refl };
+
+    fn to_bytes(self) -> [u8; 4] {
+        self.to_le_bytes()
     }
-    value as u32
+
+    fn from_bytes(bytes: [u8; 4]) -> u32 {
+        u32::from_le_bytes(bytes)
+    }
 }
 
-// The signed number of bits.
-fn int_of(word: u32) -> i32
-    ensures { result ≡ int_of word }
-{
-    if word < HALF {
-        return word as i32;
+// A signed number is its bits, in two's complement.
+impl Word for i32 {
+    ghost bits = { cast_unsigned w32 };
+
+    ghost of_bits = { cast_signed w32 };
+
+    ghost back = { of_z-to_z w32 };
+
+    fn to_bytes(self) -> [u8; 4] {
+        self.cast_unsigned().to_bytes()
     }
-    let long = word as i64;
-    (long - WHOLE) as i32
+
+    fn from_bytes(bytes: [u8; 4]) -> i32 {
+        u32::from_bytes(bytes).cast_signed()
+    }
 }
 
 // The words are those of bytes, from the first on. Asked: as many whole words of bytes.
-pub fn load_words(bytes: &[u8], words: &mut [u32])
+#[tactic(auto, unfolding(crate::specs::Wire::words_of))]
+pub fn load<T: Word>(bytes: &[u8], words: &mut [T])
     requires { 4 * length words.old ≤ length bytes.now }
-    ensures { words.new ≡ words_of bytes.now (length words.old) }
+    ensures { words.new ≡ loaded T.of_bits bytes.now (length words.old) }
 {
-    let mut i = 0;
-    while i < words.len() {
-        words[i] = word_at(bytes, i);
-        i += 1;
+    let (fours, _) = bytes.as_chunks::<4>();
+    for i in 0..words.len() {
+        words[i] = T::from_bytes(fours[i]);
     }
 }
 
 // The first bytes are those of the words; later bytes stay. Asked: room for the words.
-pub fn store_words(words: &[u32], bytes: &mut [u8])
+#[tactic(auto, unfolding(crate::specs::Wire::bytes_of_words))]
+pub fn store<T: Word>(words: &[T], bytes: &mut [u8])
     requires { 4 * length words.now ≤ length bytes.old }
-    ensures { bytes.new ≡ written (bytes_of_words words.now) bytes.old }
+    ensures { bytes.new ≡ written (stored T.bits words.now) bytes.old }
 {
-    let mut k = 0;
-    while k < words.len() {
-        put_word(bytes, k, words[k]);
-        k += 1;
-    }
-}
-
-// The signed numbers are those of bytes, from the first on. Asked: as many whole words of bytes.
-pub fn load_ints(bytes: &[u8], ints: &mut [i32])
-    requires { 4 * length ints.old ≤ length bytes.now }
-    ensures { ints.new ≡ ints_of bytes.now (length ints.old) }
-{
-    let mut i = 0;
-    while i < ints.len() {
-        ints[i] = int_of(word_at(bytes, i));
-        i += 1;
-    }
-}
-
-// The first bytes are those of the signed numbers; later bytes stay. Asked: room for the numbers.
-pub fn store_ints(ints: &[i32], bytes: &mut [u8])
-    requires { 4 * length ints.now ≤ length bytes.old }
-    ensures { bytes.new ≡ written (bytes_of_ints ints.now) bytes.old }
-{
-    let mut at = 0;
-    while at < ints.len() {
-        put_word(bytes, at, bits_of(ints[at]));
-        at += 1;
+    for k in 0..words.len() {
+        bytes[4 * k..4 * k + 4].copy_from_slice(&words[k].to_bytes());
     }
 }

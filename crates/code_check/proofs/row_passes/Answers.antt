@@ -3,6 +3,7 @@ use mathlib.Core.Path.{ap}
 use mathlib.Core.Bool.{◌&&◌}
 use Prim.Native.Nat.{◌+◌}
 use lib.Dec.{leb, ltb}
+use borrow.Author.Rules.{rules}
 use Rattle.meaning.specs.Limits.{last_assertion}
 use Rattle.machine.specs.Kinds.{first_word, second_word}
 use Rattle.machine.specs.Words.{word_at, row_start, row_passes, row_in}
@@ -64,6 +65,4 @@ returns-in-10 c =
 
 pub returns-in_default : goal.returns-in_default
 unfolding row_checked
-returns-in_default c =
-    rw (unlisted _ c.in_default.in_default-own.rest.0.0.0.0.0.0.0.0.0.1 c.in_default.in_default-own.rest.0.0.0.0.0.0.0.0.1 c.in_default.in_default-own.rest.0.0.0.0.0.0.0.1
-    c.in_default.in_default-own.rest.0.0.0.0.0.0.1 c.in_default.in_default-own.rest.0.0.0.0.0.1 c.in_default.in_default-own.rest.0.0.0.0.1 c.in_default.in_default-own.rest.0.0.0.1 c.in_default.in_default-own.rest.0.0.1 c.in_default.in_default-own.rest.0.1 c.in_default.in_default-own.rest.1)
+returns-in_default c = rw (unlisted (word_at c.args.code.now (row_start c.args.q)) (search rules) (search rules) (search rules) (search rules) (search rules) (search rules) (search rules) (search rules) (search rules) (search rules))

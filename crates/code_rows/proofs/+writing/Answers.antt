@@ -18,14 +18,10 @@ use mathlib.Core.Bool.{cond}
 use Rattle.code_rows.proofs.+writing.Invariants.{one, next}
 use Rattle.code_rows.proofs.+writing.Goals as goal
 
--- `alternation`: The last alternative is written, and of the others those after the ones that are left.
-pub alternation-word-left-requires : goal.alternation-word-left-requires
-alternation-word-left-requires t c =
+-- `alternation`: The last alternative is written, and of the others so many, from the last of them back.
+pub alternation-word-items-requires : goal.alternation-word-items-requires
+alternation-word-items-requires t c =
     word_there _ (omega arith) c.requires.0.part
-
-pub alternation-overflow_sub-left : goal.alternation-overflow_sub-left
-alternation-overflow_sub-left t c =
-    omega (arith, c.word-left.ensures, some_alternative c.requires.0.part (is_alternation c.requires.0.node c.requires.0.part c.requires.1))
 
 pub alternation-overflow_sub-last : goal.alternation-overflow_sub-last
 alternation-overflow_sub-last t c =
@@ -44,13 +40,13 @@ alternation-previous-item-requires t c =
     let p = (last_alternative c.requires.0.part (is_alternation c.requires.0.node c.requires.0.part c.requires.1)).part in
     ((part_some p).0, (part_some p).1, records_low p)
 
-pub alternation-loop-left-init : goal.alternation-loop-left-init
-alternation-loop-left-init t c = (
+pub alternation-loop-init : goal.alternation-loop-init
+alternation-loop-init t c = (
   λ r p i h.
       let l = last_alternative p i in
       let w = c.part-at.ensures.by l.node l.part (omega (arith, alternation_size p i)) in
-      rw (c.previous-item.ensures, c.word-left.ensures)
-      (lined_none c.part-at.new.code c.part-at.result l.rest (omega (arith, alternation_size p i, w.counts))),
+      rw (c.previous-item.ensures, c.word-items.ensures)
+      (lined_none c.part-at.new.code c.part-at.result l.rest (omega (arith, some_alternative p i)) (omega (arith, alternation_size p i, w.counts))),
   omega (arith, c.previous-item.ensures, part_some c.requires.0.part),
 )
 
@@ -59,23 +55,23 @@ alternation-alternative-at-requires t c =
     let i = is_alternation c.requires.0.node c.requires.0.part c.requires.1 in
     let l = last_alternative c.requires.0.part i in
     let w = c.part-at.ensures.by l.node l.part (omega (arith, c.requires.0.fits, alternation_size c.requires.0.part i)) in (
-      omega (arith, c.decreases, c.loop-left.invariant.1),
-      lined_asks (c.loop-left.invariant.0 c.requires.0.node c.requires.0.part i c.requires.0.fits) c.loop-left-test.true (room_before w c.requires.0.room),
+      omega (arith, c.decreases, c.loop.invariant.1),
+      lined_asks (c.loop.invariant.0 c.requires.0.node c.requires.0.part i c.requires.0.fits) c.loop-test.true (room_before w c.requires.0.room),
     )
 
-pub alternation-previous-item-requires-in-loop-left : goal.alternation-previous-item-requires-in-loop-left
-alternation-previous-item-requires-in-loop-left t c =
+pub alternation-previous-item-requires-in-loop : goal.alternation-previous-item-requires-in-loop
+alternation-previous-item-requires-in-loop t c =
     let i = is_alternation c.requires.0.node c.requires.0.part c.requires.1 in
-    lined_low (c.loop-left.invariant.0 c.requires.0.node c.requires.0.part i c.requires.0.fits) c.loop-left-test.true
+    lined_low (c.loop.invariant.0 c.requires.0.node c.requires.0.part i c.requires.0.fits) c.loop-test.true
 
-pub alternation-loop-left-preserved : goal.alternation-loop-left-preserved
-alternation-loop-left-preserved t c = (
+pub alternation-loop-preserved : goal.alternation-loop-preserved
+alternation-loop-preserved t c = (
   λ r p i h.
       let l = last_alternative p i in
       let w = c.part-at.ensures.by l.node l.part (omega (arith, alternation_size p i)) in
-      rw c.previous-item-in-loop-left.ensures
-      (lined_more (c.loop-left.invariant.0 r p i h) c.loop-left-test.true (room_before w c.requires.0.room) c.alternative-at.ensures),
-  omega (arith, c.previous-item-in-loop-left.ensures, c.loop-left.invariant.1),
+      rw c.previous-item-in-loop.ensures
+      (lined_more (c.loop.invariant.0 r p i h) c.loop-test.true (room_before w c.requires.0.room) c.alternative-at.ensures),
+  omega (arith, c.previous-item-in-loop.ensures, c.loop.invariant.1),
 )
 
 pub alternation-returns : goal.alternation-returns
@@ -86,7 +82,7 @@ alternation-returns t c =
           let l = last_alternative p i in
           let w = c.part-at.ensures.by l.node l.part (omega (arith, alternation_size p i)) in
           wrote_alternation p i c.requires.0.room w
-          (lined_done (c.loop-left.invariant.0 r p i h) c.loop-left-test.false);
+          (lined_done (c.loop.invariant.0 r p i h) c.loop-test.false);
     }
 
 -- `alternative`: Jump, the part and Fork are written one before the other.
@@ -310,47 +306,47 @@ quantifier-returns t c =
           wrote_of i.is (wrote_bounded i.inside c.requires.0.room c.word-least.result (c.word-most.result - c.word-least.result) (eqb c.word-lazy.result 1) w w');
     }
 
--- `repeats`: The passes after those that are left are written.
-pub repeats-loop-left-preserved : goal.repeats-loop-left-preserved
-repeats-loop-left-preserved t c =
-    looped_more fresh_size fresh_rows (λ r p. past r (suc p)) past_fresh c.loop-left.invariant c.loop-left-test.true
+-- `repeats`: So many passes are written, from the last one back.
+pub repeats-loop-preserved : goal.repeats-loop-preserved
+repeats-loop-preserved t c =
+    looped_more fresh_size fresh_rows (λ r p. past r (suc p)) past_fresh c.loop.invariant c.loop-test.true
     c.requires.room c.fresh-at.ensures
 
 pub repeats-returns : goal.repeats-returns
-repeats-returns t c = looped_done fresh_size fresh_rows (λ r p. past r (suc p)) past_fresh c.loop-left.invariant c.loop-left-test.false
+repeats-returns t c = looped_done fresh_size fresh_rows (λ r p. past r (suc p)) past_fresh c.loop.invariant c.loop-test.false
 
--- `sequence`: The items after those that are left are written.
-pub sequence-word-left-requires : goal.sequence-word-left-requires
-sequence-word-left-requires t c =
+-- `sequence`: So many items are written, from the last one back.
+pub sequence-word-items-requires : goal.sequence-word-items-requires
+sequence-word-items-requires t c =
     word_there _ (omega arith) c.requires.0.part
 
 pub sequence-overflow_sub-item : goal.sequence-overflow_sub-item
 sequence-overflow_sub-item t c =
     omega (arith, part_some c.requires.0.part)
 
-pub sequence-loop-left-init : goal.sequence-loop-left-init
-sequence-loop-left-init t c = (
-  λ r p h. rw c.word-left.ensures
-      (lined_none c.args.code.now c.args.end (rest_of p)
+pub sequence-loop-init : goal.sequence-loop-init
+sequence-loop-init t c = (
+  λ r p h. rw c.word-items.ensures
+      (lined_none c.args.code.now c.args.end (rest_of p) (omega arith)
       (omega (arith, (items_all (is_sequence r p c.requires.1)).0))),
   omega (arith, part_some c.requires.0.part),
 )
 
 pub sequence-part-at-requires : goal.sequence-part-at-requires
 sequence-part-at-requires t c = (
-  omega (arith, c.decreases, c.loop-left.invariant.1),
-  lined_asks (c.loop-left.invariant.0 c.requires.0.node c.requires.0.part c.requires.0.fits) c.loop-left-test.true c.requires.0.room,
+  omega (arith, c.decreases, c.loop.invariant.1),
+  lined_asks (c.loop.invariant.0 c.requires.0.node c.requires.0.part c.requires.0.fits) c.loop-test.true c.requires.0.room,
 )
 
 pub sequence-previous-item-requires : goal.sequence-previous-item-requires
 sequence-previous-item-requires t c =
-    lined_low (c.loop-left.invariant.0 c.requires.0.node c.requires.0.part c.requires.0.fits) c.loop-left-test.true
+    lined_low (c.loop.invariant.0 c.requires.0.node c.requires.0.part c.requires.0.fits) c.loop-test.true
 
-pub sequence-loop-left-preserved : goal.sequence-loop-left-preserved
-sequence-loop-left-preserved t c = (
+pub sequence-loop-preserved : goal.sequence-loop-preserved
+sequence-loop-preserved t c = (
   λ r p h. rw c.previous-item.ensures
-      (lined_more (c.loop-left.invariant.0 r p h) c.loop-left-test.true c.requires.0.room c.part-at.ensures),
-  omega (arith, c.previous-item.ensures, c.loop-left.invariant.1),
+      (lined_more (c.loop.invariant.0 r p h) c.loop-test.true c.requires.0.room c.part-at.ensures),
+  omega (arith, c.previous-item.ensures, c.loop.invariant.1),
 )
 
 pub sequence-returns : goal.sequence-returns
@@ -358,7 +354,7 @@ sequence-returns t c =
     record {
       by = λ r p h.
           wrote_sequence (is_sequence r p c.requires.1)
-          (lined_done (c.loop-left.invariant.0 r p h) c.loop-left-test.false);
+          (lined_done (c.loop.invariant.0 r p h) c.loop-test.false);
     }
 
 -- `turn`: End, a fresh pass, Begin and Fork are written one before the other.
@@ -382,13 +378,13 @@ turn-returns t c =
           (wrote_as c.row_before-2.ensures refl fork);
     }
 
--- `turns`: The turns after those that are left are written.
-pub turns-loop-left-preserved : goal.turns-loop-left-preserved
-turns-loop-left-preserved t c =
-    looped_more turn_size (one c.args.lazy c.args.end) next past_turn_lem c.loop-left.invariant c.loop-left-test.true
+-- `turns`: So many turns are written, from the last one back.
+pub turns-loop-preserved : goal.turns-loop-preserved
+turns-loop-preserved t c =
+    looped_more turn_size (one c.args.lazy c.args.end) next past_turn_lem c.loop.invariant c.loop-test.true
     c.requires.room (turn_on c.args.lazy c.args.end c.turn-at.ensures)
 
 pub turns-returns : goal.turns-returns
 turns-returns t c =
-    looped_done turn_size (one c.args.lazy c.args.end) next past_turn_lem c.loop-left.invariant
-    c.loop-left-test.false
+    looped_done turn_size (one c.args.lazy c.args.end) next past_turn_lem c.loop.invariant
+    c.loop-test.false

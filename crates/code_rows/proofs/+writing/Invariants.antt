@@ -43,28 +43,19 @@ decreases-turn l = 8 * l.top + 9
 abbrev pub decreases-turns : goal.decreases-turns
 decreases-turns l = 8 * l.top + 10
 
-abbrev pub invariant-alternation-loop-left : goal.invariant-alternation-loop-left
-invariant-alternation-loop-left l =
+abbrev pub invariant-alternation-loop : goal.invariant-alternation-loop
+invariant-alternation-loop l =
     ((r : Node) (p : Part l.table l.top r) (i : IsPair alternation r) → size_of r ≤ l.end
-    → Lined alternative_size (alternative_rows l.end) l.table l.initial.code l.code l.item l.left l.at l.initial.at (last_alternative p i).front) × (l.item < l.top)
+    → Lined alternative_size (alternative_rows l.end) l.table l.initial.code l.code l.item l.items l.counter l.at l.initial.at (last_alternative p i).front) × (l.item < l.top)
 
-abbrev pub decreases-alternation-loop-left : goal.decreases-alternation-loop-left
-decreases-alternation-loop-left l = l.left
+abbrev pub invariant-repeats-loop : goal.invariant-repeats-loop
+invariant-repeats-loop l =
+    Looped fresh_size fresh_rows (λ r p. past r (suc p)) l.table l.top l.initial.code l.code l.n l.counter l.at l.end
 
-abbrev pub invariant-repeats-loop-left : goal.invariant-repeats-loop-left
-invariant-repeats-loop-left l =
-    Looped fresh_size fresh_rows (λ r p. past r (suc p)) l.table l.top l.initial.code l.code l.n l.left l.at l.end
-
-abbrev pub decreases-repeats-loop-left : goal.decreases-repeats-loop-left
-decreases-repeats-loop-left l = l.left
-
-abbrev pub invariant-sequence-loop-left : goal.invariant-sequence-loop-left
-invariant-sequence-loop-left l =
+abbrev pub invariant-sequence-loop : goal.invariant-sequence-loop
+invariant-sequence-loop l =
     ((r : Node) → Part l.table l.top r → size_of r ≤ l.end
-    → Lined size_of rows_of l.table l.initial.code l.code l.item l.left l.at l.end (inner r)) × (l.item < l.top)
-
-abbrev pub decreases-sequence-loop-left : goal.decreases-sequence-loop-left
-decreases-sequence-loop-left l = l.left
+    → Lined size_of rows_of l.table l.initial.code l.code l.item l.items l.counter l.at l.end (inner r)) × (l.item < l.top)
 
 -- A turn of those that go on at the next, or out to row `out`.
 abbrev pub one : Bool → ℕ → Node → ℕ → List Row
@@ -73,9 +64,6 @@ one lazy out r q = turn_of lazy out (past_turn (past r) q) r q
 abbrev pub next : Node → ℕ → ℕ
 next r q = past_turn (past r) q
 
-abbrev pub invariant-turns-loop-left : goal.invariant-turns-loop-left
-invariant-turns-loop-left l =
-    Looped turn_size (one l.lazy l.end) next l.table l.top l.initial.code l.code l.n l.left l.at l.end
-
-abbrev pub decreases-turns-loop-left : goal.decreases-turns-loop-left
-decreases-turns-loop-left l = l.left
+abbrev pub invariant-turns-loop : goal.invariant-turns-loop
+invariant-turns-loop l =
+    Looped turn_size (one l.lazy l.end) next l.table l.top l.initial.code l.code l.n l.counter l.at l.end

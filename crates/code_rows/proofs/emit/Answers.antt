@@ -14,18 +14,18 @@ pub overflow_add-n : goal.overflow_add-n
 overflow_add-n c =
     omega (arith, c.word-n.ensures, root_size c.requires.tabled)
 
-pub returns-then-n-gt-ROW_LIMIT : goal.returns-then-n-gt-ROW_LIMIT
-returns-then-n-gt-ROW_LIMIT c =
+pub returns-then-n-gt-ROW_LIMIT-clause-emits : goal.returns-then-n-gt-ROW_LIMIT-clause-emits
+returns-then-n-gt-ROW_LIMIT-clause-emits c =
     too_many c.word-n.ensures c.args.groups c.args.code.now c.if-n-gt-ROW_LIMIT.true
 
-pub returns-then-code-n : goal.returns-then-code-n
-returns-then-code-n c =
+pub returns-then-code-n-clause-emits : goal.returns-then-code-n-clause-emits
+returns-then-code-n-clause-emits c =
     too_short c.word-n.ensures c.if-n-gt-ROW_LIMIT.false c.args.groups c.args.code.now c.if-code-n.true
 
 pub write_program-requires : goal.write_program-requires
 write_program-requires c =
     compiling c.word-n.ensures c.if-n-gt-ROW_LIMIT.false c.args.code.now c.if-code-n.false c.requires
 
-pub returns : goal.returns
-returns c =
+pub returns-clause-emits : goal.returns-clause-emits
+returns-clause-emits c =
     emitted c.word-n.ensures c.if-n-gt-ROW_LIMIT.false c.args.groups c.if-code-n.false c.write_program.ensures

@@ -1,8 +1,7 @@
 -- Nothing is kept of the table, and the refusal has its number.
-use mathlib.Core.Path.{refl}
 use Rattle.compiler.proofs.Laws.{made_zero}
 use Rattle.compiler.proofs.without_program.Goals as goal
 
 pub returns : goal.returns
 returns c =
-    record { refuses = refl; zero = made_zero c.args.table.now c.clear.ensures }
+    record { refuses = rw c.into.ensures; zero = made_zero c.args.table.now c.clear.ensures }

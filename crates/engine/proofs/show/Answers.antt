@@ -9,5 +9,5 @@ pub returns-then-v-lt-POSITION_LIMIT : goal.returns-then-v-lt-POSITION_LIMIT
 returns-then-v-lt-POSITION_LIMIT c =
     to_z_pos w32 c.args.v c.if-v-lt-POSITION_LIMIT.true ∙ shows_position c.args.v c.if-v-lt-POSITION_LIMIT.true
 
-pub returns : goal.returns
-returns c = shows_none c.args.v c.if-v-lt-POSITION_LIMIT.false
+pub returns-else-v-lt-POSITION_LIMIT : goal.returns-else-v-lt-POSITION_LIMIT
+returns-else-v-lt-POSITION_LIMIT c = shows_none c.args.v c.if-v-lt-POSITION_LIMIT.false

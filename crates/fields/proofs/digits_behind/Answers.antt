@@ -1,75 +1,72 @@
-use mathlib.Core.Path.{◌≡◌, refl, sym, ◌∙◌}
-use mathlib.Core.Bool.{true}
-use mathlib.Core.List.{List}
-use Prim.Native.Nat.{ℕ, ◌+◌, ◌-◌, ◌*◌, ◌^◌, ◌<◌}
-use native.Mathlib.Omega.{arith}
-use borrow.Author.Tests.{not-true, not-false}
-use lib.ListN.{length, get_or}
+-- The byte of each turn stands at the place behind what was read.
+use Rattle.std.specs.Prelude.{◌≡◌, Bool, true, List, ℕ, ◌+◌, ◌-◌, ◌*◌, ◌^◌, ◌<◌, length, get_or, take, drop}
+use Rattle.std.proofs.Common.{refl, sym, ap, ◌∙◌, arith, length-take, length-drop, get_or-take, get_or-drop}
+use Rattle.std.specs.Char.{is_ascii_digit}
 use Rattle.sets.specs.Sets.{is_digit}
 use Rattle.meaning.specs.Limits.{digit_limit}
-use Rattle.fields.specs.Laws.{stop_full, stop_over, stop_other, digit_low, fits, go_on}
+use Rattle.fields.specs.Laws.{stop_full, stop_over, stop_other, fits, go_on}
 use Rattle.fields.specs.declared.Run.{Run}
-use Rattle.fields.proofs.digits_behind.Goals.{Else-not-is_digit}
+use Rattle.fields.proofs.digits_behind.Goals.{Else-not-is_ascii_digit, then-run-eq0-via-then-run-eq0, then-run-eq0-via-else-run-eq0+then-not-is_ascii_digit}
 use Rattle.fields.proofs.digits_behind.Goals as goal
 
--- Where a digit stands and there may be more of them.
-module _ (c : Else-not-is_digit) where
-  abbrev run : Run
-  run = c.loop-run.run
+module _ (s : List ℕ) (from i at : ℕ) (is : at ≡ from + i) (h : i < length (take (length s - from) (drop from s))) where
+  inside : i < length s - from
+  inside = omega (arith, length-take {A = ℕ}, length-drop {A = ℕ})
 
+  there : at < length s
+  there = omega (arith, inside)
+
+  byte : get_or (take (length s - from) (drop from s)) i 0 ≡ get_or s at 0
+  byte = rw is (get_or-take (length s - from) (drop from s) i 0 inside ∙ get_or-drop from s i 0)
+
+  tested : (r v : Bool) → r ≡ is_ascii_digit (get_or (take (length s - from) (drop from s)) i 0) → r ≡ v → is_digit (get_or s at 0) ≡ v
+  unfolding is_digit
+  tested r v e f = rw (← byte) (sym e ∙ f)
+
+-- Where a digit stands and there may be more of them.
+module _ (c : Else-not-is_ascii_digit) where
   abbrev s : List ℕ
   s = c.args.s.now
 
-  there : run.end < length s
-  there = c.loop-run-test.true
+  abbrev run : Run
+  run = c.loop-b.run
 
-  left : run.room ≡ 0 → ⊥
-  left = c.if-run-eq0.false
+  here : run.end < length s
+  here = there s c.args.read.end c.loop-b.b-index run.end c.loop-b.invariant.1 c.loop-b-test.true
 
   digit : is_digit (get_or s run.end 0) ≡ true
-  digit = sym c.is_digit.ensures ∙ not-false c.is_digit.result c.if-not-is_digit.false-raw
+  digit = tested s c.args.read.end c.loop-b.b-index run.end c.loop-b.invariant.1 c.loop-b-test.true _ _
+      c.is_ascii_digit.ensures.value c.if-not-is_ascii_digit.false
 
-  -- The number with the digit fits.
-  module _ (v : ℕ) (is : v ≡ get_or s run.end 0 - 0x30) where
-    fit : 10 * run.number + v < 10 ^ digit_limit
-    fit = fits c.loop-run.invariant there left digit v is
+  value_is : (v : ℕ) → v ≡ get_or (take (length s - c.args.read.end) (drop c.args.read.end s)) c.loop-b.b-index 0 - 0x30
+      → v ≡ get_or s run.end 0 - 0x30
+  value_is v e = e ∙ ap (λ b. b - 0x30) (byte s c.args.read.end c.loop-b.b-index run.end c.loop-b.invariant.1 c.loop-b-test.true)
 
-pub loop-run-init : goal.loop-run-init
-loop-run-init c = record { same = refl; fair = c.requires }
-
-pub bounds-s-at : goal.bounds-s-at
-bounds-s-at c = c.loop-run-test.true
+  fit : (v : ℕ) → v ≡ get_or s run.end 0 - 0x30 → 10 * run.number + v < 10 ^ digit_limit
+  fit = fits c.loop-b.invariant.0 here c.if-run-eq0.false digit
 
 pub returns-then-run-eq0 : goal.returns-then-run-eq0
-returns-then-run-eq0 c = stop_full c.loop-run.invariant c.if-run-eq0.true
-
-pub returns-then-not-is_digit : goal.returns-then-not-is_digit
-returns-then-not-is_digit c =
-    stop_other c.loop-run.invariant c.loop-run-test.true
-    (sym c.is_digit.ensures ∙ not-true c.is_digit.result c.if-not-is_digit.true-raw)
+returns-then-run-eq0 c =
+    let at = c.loop-b.invariant.1 in
+    elim c.then-run-eq0.branch [
+      | then-run-eq0-via-then-run-eq0 w ↦ stop_full c.loop-b.invariant.0 w.if-run-eq0.true
+      | then-run-eq0-via-else-run-eq0+then-not-is_ascii_digit w ↦
+          stop_other c.loop-b.invariant.0 (there c.args.s.now _ _ _ at c.loop-b-test.true)
+          (tested c.args.s.now _ _ _ at c.loop-b-test.true _ _ w.is_ascii_digit.ensures.value w.if-not-is_ascii_digit.true)
+    ]
 
 pub overflow_mul-run : goal.overflow_mul-run
-overflow_mul-run c = omega (arith, fit (goal.at.overflow_mul-run c).Else-not-is_digit _ refl)
-
-pub digit_value-requires : goal.digit_value-requires
-digit_value-requires c =
-    digit_low c.loop-run.invariant (there (goal.at.digit_value-requires c).Else-not-is_digit) (left (goal.at.digit_value-requires c).Else-not-is_digit) (digit (goal.at.digit_value-requires c).Else-not-is_digit)
+overflow_mul-run c = omega (arith, fit (goal.at.overflow_mul-run c).Else-not-is_ascii_digit _ refl)
 
 pub overflow_add-run : goal.overflow_add-run
-overflow_add-run c = omega (arith, fit (goal.at.overflow_add-run c).Else-not-is_digit _ c.digit_value.ensures)
+overflow_add-run c =
+    let d = (goal.at.overflow_add-run c).Else-not-is_ascii_digit in
+    omega (arith, fit d _ (value_is d _ c.digit_value.ensures))
 
-pub overflow_sub-run : goal.overflow_sub-run
-overflow_sub-run c = omega (arith, left (goal.at.overflow_sub-run c).Else-not-is_digit)
-
-pub overflow_add-run-in-loop-run : goal.overflow_add-run-in-loop-run
-overflow_add-run-in-loop-run c = omega (arith, there (goal.at.overflow_add-run-in-loop-run c).Else-not-is_digit)
-
-pub loop-run-smaller : goal.loop-run-smaller
-loop-run-smaller c = omega (arith, there (goal.at.loop-run-smaller c).Else-not-is_digit)
-
-pub loop-run-preserved : goal.loop-run-preserved
-loop-run-preserved c =
-    go_on c.loop-run.invariant (there (goal.at.loop-run-preserved c).Else-not-is_digit) (left (goal.at.loop-run-preserved c).Else-not-is_digit) (digit (goal.at.loop-run-preserved c).Else-not-is_digit) _ c.digit_value.ensures
+pub loop-b-preserved : goal.loop-b-preserved
+loop-b-preserved c =
+    let d = (goal.at.loop-b-preserved c).Else-not-is_ascii_digit in
+    (go_on c.loop-b.invariant.0 (here d) c.if-run-eq0.false (digit d) _ (value_is d _ c.digit_value.ensures), omega (arith, c.loop-b.invariant.1))
 
 pub returns : goal.returns
-returns c = stop_over c.loop-run.invariant c.loop-run-test.false
+returns c = stop_over c.loop-b.invariant.0 (omega (arith, c.loop-b.invariant.1, length-take {A = ℕ}, length-drop {A = ℕ}))

@@ -1,56 +1,36 @@
-use mathlib.Core.Path.{refl}
-use mathlib.Core.Logic.{⊎_elim, inl, inr}
-use Prim.Native.Nat.{◌-◌}
-use native.Mathlib.Omega.{arith}
-use borrow.Author.Rules.{rules}
-use borrow.Author.Tests.{leb-true}
-use lib.ListN.{length}
-use Rattle.intake_report.specs.Wrote.{wrote_length, wrote_within}
-use Rattle.intake_lines.specs.Ended.{line_room}
+use Rattle.std.specs.Prelude.{◌≡◌, ℕ, min, length, get_or}
+use Rattle.std.proofs.Common.{refl, sym, ap, ◌∙◌, inl, inr, subst, arith, rules}
+use Rattle.intake_report.specs.Wrote.{wrote_length}
+use Rattle.intake_feeding.specs.Work.{kept_limit}
+use Rattle.intake_feeding.specs.Fed.{Steps}
 use Rattle.intake_feeding.specs.Laws.{feeding_none, feeding_more, feeding_ends}
+use Rattle.intake_feeding.proofs.feed.Goals.{else-loop-byte-test, then-loop-byte-test+then-out-fed-lt-LINE_ROOM}
 use Rattle.intake_feeding.proofs.feed.Goals as goal
 
-pub loop-fed-init : goal.loop-fed-init
-loop-fed-init c =
-    (feeding_none c.args.kept (search rules) c.clamp.ensures, λ _. (refl, refl, refl))
-
-pub overflow_sub-out : goal.overflow_sub-out
-overflow_sub-out c =
-    wrote_within c.loop-fed.invariant.0.text_is
-
-pub bounds-piece-at : goal.bounds-piece-at
-bounds-piece-at c =
-    c.loop-fed-test.true
-
-pub step-fed-requires : goal.step-fed-requires
-step-fed-requires c =
-    let room = leb-true line_room (length c.loop-fed.out - c.loop-fed.fed.end) c.if-out-fed-ge-LINE_ROOM.true-raw in
-    (c.loop-fed.invariant.0.few, omega (arith, wrote_within c.loop-fed.invariant.0.text_is, room))
-
-pub overflow_add-fed : goal.overflow_add-fed
-overflow_add-fed c =
-    omega (arith, c.loop-fed-test.true)
-
-pub loop-fed-smaller : goal.loop-fed-smaller
-loop-fed-smaller c =
-    omega (arith, c.loop-fed-test.true)
-
-pub loop-fed-preserved : goal.loop-fed-preserved
-loop-fed-preserved c =
-    let room = leb-true line_room (length c.loop-fed.out - c.loop-fed.fed.end) c.if-out-fed-ge-LINE_ROOM.true-raw in (
-      feeding_more c.loop-fed.invariant.0 c.loop-fed-test.true (omega (arith, room, wrote_length c.loop-fed.invariant.0.text_is))
-          c.step-fed.ensures,
-      λ none. absurd (omega arith),
-    )
-
-pub shape_of-out : goal.shape_of-out
-shape_of-out c =
-    wrote_length c.loop-fed.invariant.0.text_is
-
-pub returns : goal.returns
-returns c =
-    let same = wrote_length c.loop-fed.invariant.0.text_is in record {
-      feeds = feeding_ends c.loop-fed.invariant.0
-          (⊎_elim (λ w. inr (omega (arith, same, w.if-out-fed-ge-LINE_ROOM.false))) (λ w. inl w.loop-fed-test.false) c.loop-fed-test.branch-raw);
-      untouched = c.loop-fed.invariant.1;
+pub loop-byte-init : goal.loop-byte-init
+loop-byte-init c =
+    let long : length c.args.space.now.line ≡ kept_limit = search rules in
+    record {
+      feeding = feeding_none c.args.kept long (c.min.ensures ∙ ap (λ n. min c.args.kept n) (sym long));
+      at = refl;
+      untouched = λ _. (refl, refl, refl);
     }
+
+pub loop-byte-preserved : goal.loop-byte-preserved
+loop-byte-preserved c =
+    let i = c.loop-byte.invariant in
+    let step = subst (λ (n : ℕ). Steps c.loop-byte.fed (get_or c.args.piece.now n 0) c.loop-byte.space.line c.step.new.space.line
+    c.loop-byte.space.buffers.code c.step.new.space.buffers.code c.loop-byte.out c.step.new.out c.step.result) (sym i.at) c.step.ensures in
+    record {
+      feeding = feeding_more i.feeding (omega arith) (omega (arith, wrote_length i.feeding.text_is)) step;
+      at = omega arith;
+      untouched = λ none. absurd (omega arith);
+    }
+
+pub returns-clause-feeds : goal.returns-clause-feeds
+returns-clause-feeds c =
+    let i = c.loop-byte.invariant in
+    feeding_ends i.feeding (elim c.loop-byte-test.branch [
+      | else-loop-byte-test w ↦ inl (omega arith)
+      | then-loop-byte-test+then-out-fed-lt-LINE_ROOM w ↦ inr (omega (arith, wrote_length i.feeding.text_is))
+    ])

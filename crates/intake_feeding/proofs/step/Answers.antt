@@ -1,17 +1,11 @@
 -- LF ends the line, and any other byte is kept.
-use mathlib.Core.Path.{sym}
 use native.Mathlib.Omega.{arith}
-use borrow.Author.Rules.{rules}
-use lib.Seq.{length-take-le}
 use Rattle.intake_feeding.specs.Laws.{step_ends, step_keeps}
 use Rattle.intake_feeding.proofs.step.Goals as goal
 
 pub returns-then-byte-ne-LF : goal.returns-then-byte-ne-LF
 returns-then-byte-ne-LF c =
     step_keeps c.if-byte-ne-LF.true (omega (arith, c.requires.1)) c.keep.ensures
-
-pub slice_bounds-end_line-end : goal.slice_bounds-end_line-end
-slice_bounds-end_line-end c = sym (length-take-le _ _ (search rules))
 
 pub returns : goal.returns
 returns c =

@@ -1,13 +1,17 @@
--- A pattern that is refused, and one whose code runs.
+-- A pattern whose code runs, and one whose run is turned away.
+use Rattle.std.proofs.Common.{refl}
+use Rattle.std.proofs.lemmas.Result.{err_from_is_err_and}
 use Rattle.reading_atoms.specs.Places.{bytes_of}
-use Rattle.millkettle.specs.Found.{refused_finds, run_finds}
+use Rattle.millkettle.specs.Found.{run_finds, found_view}
 use Rattle.millkettle.proofs.find.Goals as goal
 
-pub returns-in-Refused : goal.returns-in-Refused
-returns-in-Refused c =
-    refused_finds _ _ _ _ _ _ _ c.compile.ensures c.in-Refused.is
+pub returns-in_err-search : goal.returns-in_err-search
+returns-in_err-search c =
+    let p = err_from_is_err_and c.from_residual-in_err-search.result c.from_residual-in_err-search.ensures.1 in
+    rw (p.1, p.2)
+    (run_finds (bytes_of _ c.type_inv.pattern) (bytes_of _ c.type_inv.text) c.in_ok-compile.ensures refl c.in_err-search.ensures refl)
 
-pub returns-in-Rows : goal.returns-in-Rows
-returns-in-Rows c =
-    run_finds (bytes_of _ c.type_inv.pattern) (bytes_of _ c.type_inv.text)
-    c.compile.ensures c.in-Rows.is c.search.ensures c.as_finding.ensures
+pub returns : goal.returns
+returns c =
+    run_finds (bytes_of _ c.type_inv.pattern) (bytes_of _ c.type_inv.text) c.in_ok-compile.ensures refl c.in_ok-search.ensures
+    (found_view c.in_ok-search.field-0)

@@ -15,14 +15,14 @@ decreases-atom l = 3 * (depth_limit - l.depth)
 abbrev pub decreases-sequence : goal.decreases-sequence
 decreases-sequence l = 3 * (depth_limit - l.depth) + 1
 
-abbrev pub invariant-alternatives-loop-number : goal.invariant-alternatives-loop-number
-invariant-alternatives-loop-number l = Inv (alternatives_go l.s (sequence_at (depth_limit - l.depth) l.s)) alternation l.s l.initial.table l.table l.at l.groups l.top l.here l.seen l.next l.count
+abbrev pub invariant-alternatives-loop-read : goal.invariant-alternatives-loop-read
+invariant-alternatives-loop-read l = Inv (alternatives_go l.s (sequence_at (depth_limit - l.depth) l.s)) alternation l.s l.initial.table l.table l.fn.from.at l.fn.from.groups l.fn.from.top l.read.at l.read.groups l.read.top l.count
 
-abbrev pub decreases-alternatives-loop-number : goal.decreases-alternatives-loop-number
-decreases-alternatives-loop-number l = length l.s - l.here
+abbrev pub decreases-alternatives-loop-read : goal.decreases-alternatives-loop-read
+decreases-alternatives-loop-read l = length l.s - l.read.at
 
 abbrev pub invariant-sequence-loop-table : goal.invariant-sequence-loop-table
-invariant-sequence-loop-table l = Inv (sequence_go l.s (item_at (depth_limit - l.depth) l.s)) sequence l.s l.initial.table l.table l.at l.groups l.top l.here l.seen l.next l.count
+invariant-sequence-loop-table l = Inv (sequence_go l.s (item_at (depth_limit - l.depth) l.s)) sequence l.s l.initial.table l.table l.fn.from.at l.fn.from.groups l.fn.from.top l.read.at l.read.groups l.read.top l.count
 
 abbrev pub decreases-sequence-loop-table : goal.decreases-sequence-loop-table
-decreases-sequence-loop-table l = length l.s - l.here
+decreases-sequence-loop-table l = length l.s - l.read.at

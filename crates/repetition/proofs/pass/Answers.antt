@@ -86,20 +86,20 @@ overflow_add-filled c = omega (arith, (fits (goal.at.overflow_add-filled c).Else
 pub overflow_add-matches : goal.overflow_add-matches
 overflow_add-matches c = omega (arith, (fits (goal.at.overflow_add-matches c).Else-not-ran).1)
 
-pub offset_bounds-work-best : goal.offset_bounds-work-best
-offset_bounds-work-best c = omega (arith, words_few (goal.at.offset_bounds-work-best c).Else-not-ran)
+pub offset_bounds-work-ran : goal.offset_bounds-work-ran
+offset_bounds-work-ran c = omega (arith, words_few (goal.at.offset_bounds-work-ran c).Else-not-ran)
 
-pub bounds-work-best : goal.bounds-work-best
-bounds-work-best c = omega (arith, words_inside (goes (goal.at.bounds-work-best c).Else-not-ran), two (goal.at.bounds-work-best c).Else-not-ran)
+pub bounds-work-ran : goal.bounds-work-ran
+bounds-work-ran c = omega (arith, words_inside (goes (goal.at.bounds-work-ran c).Else-not-ran), two (goal.at.bounds-work-ran c).Else-not-ran)
 
-pub overflow_add-best : goal.overflow_add-best
-overflow_add-best c = omega (arith, words_few (goal.at.overflow_add-best c).Else-not-ran)
+pub overflow_add-ran : goal.overflow_add-ran
+overflow_add-ran c = omega (arith, words_few (goal.at.overflow_add-ran c).Else-not-ran)
 
-pub offset_bounds-work-best-in-loop-at : goal.offset_bounds-work-best-in-loop-at
-offset_bounds-work-best-in-loop-at c = omega (arith, words_few (goal.at.offset_bounds-work-best-in-loop-at c).Else-not-ran)
+pub offset_bounds-work-ran-in-loop-at : goal.offset_bounds-work-ran-in-loop-at
+offset_bounds-work-ran-in-loop-at c = omega (arith, words_few (goal.at.offset_bounds-work-ran-in-loop-at c).Else-not-ran)
 
-pub bounds-work-best-in-loop-at : goal.bounds-work-best-in-loop-at
-bounds-work-best-in-loop-at c = omega (arith, words_inside (goes (goal.at.bounds-work-best-in-loop-at c).Else-not-ran), two (goal.at.bounds-work-best-in-loop-at c).Else-not-ran)
+pub bounds-work-ran-in-loop-at : goal.bounds-work-ran-in-loop-at
+bounds-work-ran-in-loop-at c = omega (arith, words_inside (goes (goal.at.bounds-work-ran-in-loop-at c).Else-not-ran), two (goal.at.bounds-work-ran-in-loop-at c).Else-not-ran)
 
 pub next_start-at-requires : goal.next_start-at-requires
 next_start-at-requires c =

@@ -1,15 +1,12 @@
-use mathlib.Core.Path.{refl}
 use native.Mathlib.Omega.{arith}
 use Rattle.running.specs.Positions.{some_byte, no_more}
 use Rattle.running.proofs.byte_after.Goals as goal
 
-pub overflow_cast-result : goal.overflow_cast-result
-overflow_cast-result c = omega (arith, c.type_inv.text c.args.position)
+pub returns-in-Some : goal.returns-in-Some
+returns-in-Some c =
+    let found = c.in-Some.ensures.lookup.3 in
+    some_byte c.args.text.now c.args.position _ found.0 (found.1 0)
+    (omega (arith, found.1 0, c.type_inv.text c.args.position))
 
-pub returns-then-position-text : goal.returns-then-position-text
-returns-then-position-text c =
-    some_byte c.args.text.now c.args.position _ c.if-position-text.true refl
-    (omega (arith, c.type_inv.text c.args.position))
-
-pub returns : goal.returns
-returns c = no_more c.args.text.now c.args.position c.if-position-text.false
+pub returns-in-None : goal.returns-in-None
+returns-in-None c = no_more c.args.text.now c.args.position c.in-None.ensures.lookup.3

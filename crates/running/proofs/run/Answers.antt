@@ -52,18 +52,18 @@ settle-turn-requires c =
 pub overflow_add-count : goal.overflow_add-count
 overflow_add-count c = omega (arith, count_fits (settled (goal.at.overflow_add-count c).After-settle-turn))
 
-pub shape_of-work-then-queued-eq0 : goal.shape_of-work-then-queued-eq0
-shape_of-work-then-queued-eq0 c =
-    let d = settled (goal.at.shape_of-work-then-queued-eq0 c).After-settle-turn in
+pub shape_of-work-then-turn-eq0 : goal.shape_of-work-then-turn-eq0
+shape_of-work-then-turn-eq0 c =
+    let d = settled (goal.at.shape_of-work-then-turn-eq0 c).After-settle-turn in
     d.long ∙ d.course.long ∙ c.prepare.auto.work
 
-pub returns-then-queued-eq0 : goal.returns-then-queued-eq0
-returns-then-queued-eq0 c =
-    course_last (settled (goal.at.returns-then-queued-eq0 c).After-settle-turn) c.prepare.ensures c.if-queued-eq0.true
+pub returns-then-turn-eq0 : goal.returns-then-turn-eq0
+returns-then-turn-eq0 c =
+    course_last (settled (goal.at.returns-then-turn-eq0 c).After-settle-turn) c.prepare.ensures c.if-turn-eq0.true
 
-pub overflow_add-position : goal.overflow_add-position
-overflow_add-position c =
-    let d = settled (goal.at.overflow_add-position c).After-settle-turn in
+pub overflow_add-spot : goal.overflow_add-spot
+overflow_add-spot c =
+    let d = settled (goal.at.overflow_add-spot c).After-settle-turn in
     omega (arith, d.course.within, d.begins.short)
 
 pub next_spot-spot-requires : goal.next_spot-spot-requires
@@ -73,13 +73,13 @@ next_spot-spot-requires c =
 
 pub loop-spot-smaller : goal.loop-spot-smaller
 loop-spot-smaller c =
-    let inside = position_inside (settled (goal.at.loop-spot-smaller c).After-settle-turn) (omega (arith, c.if-queued-eq0.false)) in
+    let inside = position_inside (settled (goal.at.loop-spot-smaller c).After-settle-turn) (omega (arith, c.if-turn-eq0.false)) in
     rw c.next_spot-spot.ensures (omega arith)
 
 pub loop-spot-preserved : goal.loop-spot-preserved
 loop-spot-preserved c =
     let d = settled (goal.at.loop-spot-preserved c).After-settle-turn in
-    rw c.next_spot-spot.ensures (course_next d (omega (arith, c.if-queued-eq0.false)) c.byte_after-in-loop-spot.ensures)
+    rw c.next_spot-spot.ensures (course_next d (omega (arith, c.if-turn-eq0.false)) c.byte_after-in-loop-spot.ensures)
 
 pub plan_of-plan-requires : goal.plan_of-plan-requires
 plan_of-plan-requires c = c.requires.ready.0

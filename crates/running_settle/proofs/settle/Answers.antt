@@ -1,11 +1,12 @@
-use mathlib.Core.Path.{◌∙◌}
 use mathlib.Core.Logic.{inl}
 use native.Mathlib.Omega.{arith}
-use borrow.Author.Tests.{not-true, not-false}
+use Rattle.std.specs.Prelude.{Option}
+use Rattle.running_threads.specs.Held.{Took}
 use Rattle.running_threads.specs.Laws.{laid_len}
+use Rattle.running_threads.specs.declared.Taken.{Taken}
 use Rattle.running_settle.specs.Reached.{opened, first_key, turning}
 use Rattle.running_settle.specs.Settling.{Over, Next, turned, copy_fits, won, taken, none_left, less_left}
-use Rattle.running_settle.proofs.settle.Goals.{After-execute-done, After-take-next}
+use Rattle.running_settle.proofs.settle.Goals.{After-execute-done, After-take}
 use Rattle.running_settle.proofs.settle.Goals as goal
 
 module _ (c : After-execute-done) where
@@ -18,20 +19,21 @@ module _ (c : After-execute-done) where
     executed = c.execute-done.ensures;
   }
 
-module _ (c : After-take-next) where
+module _ (c : After-take) {x : Option Taken}
+    (took : Took c.args.plan c.args.spot c.execute-done.result.at c.loop-spot.index c.execute-done.result.frames
+    c.execute-done.new.work c.take.new.work x) where
   next : Next c.args.code.now c.args.plan c.args.spot
-      c.args.work.now c.execute-done.new.work c.loop-spot.index c.execute-done.result
-      c.take-next.new.work c.take-next.result
+      c.args.work.now c.execute-done.new.work c.loop-spot.index c.execute-done.result c.take.new.work x
   next = record {
-    laid = (over (goal.at.After-take-next c).After-execute-done).laid;
-    reached = turned (over (goal.at.After-take-next c).After-execute-done) c.if-done.false;
-    long = c.take-next.auto.work;
-    took = c.take-next.ensures;
+    laid = (over (goal.at.After-take c).After-execute-done).laid;
+    reached = turned (over (goal.at.After-take c).After-execute-done) c.if-done.false;
+    long = c.take.auto.work;
+    took = took;
   }
 
 pub loop-spot-init : goal.loop-spot-init
 loop-spot-init c =
-    rw c.wide-key.ensures.0 (opened c.args.code.now c.requires.laid.0 c.requires.laid.1, first_key c.args.code.now c.requires.laid.0 c.requires.laid.1)
+    (opened c.args.code.now c.requires.laid.0 c.requires.laid.1, first_key c.args.code.now c.requires.laid.0 c.requires.laid.1)
 
 pub execute-done-requires : goal.execute-done-requires
 execute-done-requires c =
@@ -43,32 +45,25 @@ copy-requires c =
     let fits = copy_fits (over (goal.at.copy-requires c).After-execute-done) in
     (fits.0, fits.1, inl fits.2)
 
-pub shape_of-work-then-done : goal.shape_of-work-then-done
-shape_of-work-then-done c =
-    let turn = over (goal.at.shape_of-work-then-done c).After-execute-done in
-    c.copy.auto.work ∙ turn.long ∙ turn.reached.long
-
 pub returns-then-done : goal.returns-then-done
 returns-then-done c =
     won (over (goal.at.returns-then-done c).After-execute-done) c.if-done.true c.copy.auto.work c.copy.ensures
 
 -- A turn that does not.
-pub take-next-requires : goal.take-next-requires
-take-next-requires c =
-    let turn = over (goal.at.take-next-requires c).After-execute-done in
+pub take-requires : goal.take-requires
+take-requires c =
+    let turn = over (goal.at.take-requires c).After-execute-done in
     let done = turned turn c.if-done.false in
     record { laid = (laid_len done.long turn.laid, done.runs, omega (arith, done.deep)); tags = (done.tags, done.active) }
 
-pub shape_of-work-then-not-next : goal.shape_of-work-then-not-next
-shape_of-work-then-not-next c = let last = next (goal.at.shape_of-work-then-not-next c).After-take-next in last.long ∙ last.reached.long
-
-pub returns-then-not-next : goal.returns-then-not-next
-returns-then-not-next c = none_left (next (goal.at.returns-then-not-next c).After-take-next) (not-true _ c.if-not-next.true)
+pub returns-in_default : goal.returns-in_default
+returns-in_default c = none_left (next (goal.at.returns-in_default c).After-take c.in_default.ensures)
 
 pub loop-spot-smaller : goal.loop-spot-smaller
 loop-spot-smaller c =
-    less_left (over (goal.at.loop-spot-smaller c).After-execute-done) (next (goal.at.loop-spot-smaller c).After-take-next) (not-false _ c.if-not-next.false)
+    less_left (over (goal.at.loop-spot-smaller c).After-execute-done)
+    (next (goal.at.loop-spot-smaller c).After-take c.in-Some.ensures)
 
 pub loop-spot-preserved : goal.loop-spot-preserved
 loop-spot-preserved c =
-    (taken (next (goal.at.loop-spot-preserved c).After-take-next) (not-false _ c.if-not-next.false), c.take-next.ensures.low)
+    (taken (next (goal.at.loop-spot-preserved c).After-take c.in-Some.ensures), c.in-Some.ensures.taken.low)

@@ -1,12 +1,6 @@
 -- One word more is copied with each turn.
-use mathlib.Core.Path.{◌≡◌}
-use Prim.Native.Nat.{◌-◌, ◌≤◌}
-use lib.ListN.{length}
 use Rattle.running_threads.specs.Words.{Pasted}
 use Rattle.running_threads.proofs.copy.Given as goal
 
 abbrev pub invariant-loop-i : goal.invariant-loop-i
-invariant-loop-i l = (l.i ≤ l.count) × (length l.work ≡ length l.initial.work) × Pasted l.from l.to l.i l.initial.work l.work
-
-abbrev pub decreases-loop-i : goal.decreases-loop-i
-decreases-loop-i l = l.count - l.i
+invariant-loop-i l = Pasted l.from l.to l.i l.initial.work l.work

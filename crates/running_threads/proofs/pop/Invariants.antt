@@ -4,6 +4,3 @@ use Rattle.running_threads.proofs.pop.Given as goal
 
 abbrev pub invariant-loop-top : goal.invariant-loop-top
 invariant-loop-top l = Undone l.plan l.at l.frames l.initial.work l.top l.work
-
-abbrev pub decreases-loop-top : goal.decreases-loop-top
-decreases-loop-top l = l.top

@@ -6,8 +6,8 @@ use Rattle.running_threads.proofs.queue.Goals as goal
 pub overflow_mul-queued : goal.overflow_mul-queued
 overflow_mul-queued c = omega (arith, queue_fits c.requires.laid.0 c.requires.clear.1)
 
-pub overflow_add-stored : goal.overflow_add-stored
-overflow_add-stored c = omega (arith, queue_fits c.requires.laid.0 c.requires.clear.1)
+pub overflow_add-spot : goal.overflow_add-spot
+overflow_add-spot c = omega (arith, queue_fits c.requires.laid.0 c.requires.clear.1)
 
 pub copy-requires : goal.copy-requires
 copy-requires c =

@@ -1,11 +1,11 @@
 use Prim.Native.Nat.{ℕ, ◌+◌, ◌*◌, ◌<◌, ◌≤◌}
-use mathlib.Core.Path.{◌≡◌, ◌∙◌}
+use mathlib.Core.Path.{◌≡◌, ◌∙◌, ap}
 use native.Mathlib.Omega.{arith}
-use borrow.Author.Tests.{not-true, not-false}
 use lib.ListN.{length, get_or}
 use Rattle.meaning.specs.Limits.{word_limit}
-use Rattle.second.specs.Held.{choice_at, Laid}
+use Rattle.second.specs.Held.{going_of, found_of, choice_at, Laid}
 use Rattle.second.specs.Choices.{choice_order, keys_small}
+use Rattle.second.specs.Laws.{only_won}
 use Rattle.second.specs.Course.{Begins, course_first, first_tail, course_next, last_found, last_none}
 use Rattle.second.proofs.run.Goals.{After-slice_known-3-1, Start}
 use Rattle.second.proofs.run.Goals as goal
@@ -54,7 +54,7 @@ loop-trial-init c =
 pub attempt-trial-requires : goal.attempt-trial-requires
 attempt-trial-requires c =
     let b = begins (goal.at.attempt-trial-requires c).Start in
-    record { ready = (b.ready, b.serves); standing = (c.loop-trial.invariant.stands, c.loop-trial-test.true) }
+    record { ready = (b.ready, b.serves); standing = (c.loop-trial.invariant.stands, ap going_of c.in-Runs.is) }
 
 pub loop-trial-smaller : goal.loop-trial-smaller
 loop-trial-smaller c = c.attempt-trial.ensures.less
@@ -63,23 +63,17 @@ pub loop-trial-preserved : goal.loop-trial-preserved
 loop-trial-preserved c =
     course_next c.loop-trial.invariant c.attempt-trial.auto.work c.attempt-trial.ensures
 
-pub spread-requires-then-not-trial : goal.spread-requires-then-not-trial
-spread-requires-then-not-trial c =
-    omega (arith, fits (goal.at.spread-requires-then-not-trial c).Start, c.loop-trial.invariant.long, same (goal.at.spread-requires-then-not-trial c).After-slice_known-3-1)
+pub spread-requires-in-Ended : goal.spread-requires-in-Ended
+spread-requires-in-Ended c =
+    omega (arith, fits (goal.at.spread-requires-in-Ended c).Start, c.loop-trial.invariant.long, same (goal.at.spread-requires-in-Ended c).After-slice_known-3-1)
 
-pub shape_of-work-then-not-trial : goal.shape_of-work-then-not-trial
-shape_of-work-then-not-trial c =
-    c.spread-then-not-trial.auto.work ∙ c.loop-trial.invariant.long ∙ same (goal.at.shape_of-work-then-not-trial c).After-slice_known-3-1
+pub returns-in-Ended : goal.returns-in-Ended
+returns-in-Ended c =
+    last_none (begins (goal.at.returns-in-Ended c).Start) c.loop-trial.invariant (ap going_of c.in-Ended.is) (tail (goal.at.returns-in-Ended c).After-slice_known-3-1)
+    (ap found_of c.in-Ended.is) c.spread-in-Ended.auto.work c.spread-in-Ended.ensures
 
-pub returns-then-not-trial : goal.returns-then-not-trial
-returns-then-not-trial c =
-    last_none (begins (goal.at.returns-then-not-trial c).Start) c.loop-trial.invariant c.loop-trial-test.false (tail (goal.at.returns-then-not-trial c).After-slice_known-3-1)
-    (not-true _ c.if-not-trial.true) c.spread-then-not-trial.auto.work c.spread-then-not-trial.ensures
-
-pub shape_of-work-else-not-trial : goal.shape_of-work-else-not-trial
-shape_of-work-else-not-trial c = c.loop-trial.invariant.long ∙ same (goal.at.shape_of-work-else-not-trial c).After-slice_known-3-1
-
-pub returns-else-not-trial : goal.returns-else-not-trial
-returns-else-not-trial c =
-    last_found (begins (goal.at.returns-else-not-trial c).Start) c.loop-trial.invariant c.loop-trial-test.false (tail (goal.at.returns-else-not-trial c).After-slice_known-3-1)
-    (not-false _ c.if-not-trial.false)
+pub returns-in_default-state : goal.returns-in_default-state
+returns-in_default-state c =
+    let won = only_won _ c.in_default.not-Runs c.in_default-state.not-Ended in
+    last_found (begins (goal.at.returns-in_default-state c).Start) c.loop-trial.invariant (ap going_of won) (tail (goal.at.returns-in_default-state c).After-slice_known-3-1)
+    (ap found_of won)

@@ -1,15 +1,11 @@
-use mathlib.Core.Path.{refl}
 use Prim.Native.Nat.{◌/◌, ◌%◌}
 use native.Mathlib.Omega.{arith}
 use lib.ListN.{get_or}
 use borrow.Author.Rules.{rules}
 use Rattle.sets.specs.Sets.{has, Formed}
 use Rattle.sets.specs.Bits.{bit_not}
-use Rattle.sets.specs.Laws.{words_none, words_more, words_hold, formed_of}
+use Rattle.sets.specs.Laws.{words_more, words_hold, formed_of}
 use Rattle.sets.proofs.complement.Goals as goal
-
-pub loop-j-init : goal.loop-j-init
-loop-j-init c = words_none refl
 
 pub loop-j-preserved : goal.loop-j-preserved
 loop-j-preserved c = words_more c.loop-j.invariant (search rules)

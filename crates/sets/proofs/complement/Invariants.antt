@@ -6,6 +6,3 @@ use Rattle.sets.proofs.complement.Given as goal
 
 abbrev pub invariant-loop-j : goal.invariant-loop-j
 invariant-loop-j l = Words (λ i. 2 ^ 32 - 1 - get_or l.a i 0) l.r l.j
-
-abbrev pub decreases-loop-j : goal.decreases-loop-j
-decreases-loop-j l = 8 - l.j

@@ -1,6 +1,6 @@
 -- Before byte b the set holds the bytes from `first` to b, b left out; each turn puts b in.
 use mathlib.Core.Bool.{Bool, ◌&&◌}
-use Prim.Native.Nat.{ℕ, ◌+◌, ◌-◌, ◌≤◌, max}
+use Prim.Native.Nat.{ℕ, ◌+◌, ◌≤◌, max}
 use lib.Dec.{leb, ltb}
 use Rattle.sets.specs.Sets.{Holds}
 use Rattle.sets.proofs.range.Given as goal
@@ -10,7 +10,4 @@ abbrev pub up_to : ℕ → ℕ → ℕ → Bool
 up_to first b x = leb first x && ltb x b
 
 abbrev pub invariant-loop-b : goal.invariant-loop-b
-invariant-loop-b l = (l.first ≤ l.b) × (l.b ≤ max l.first (l.last + 1)) × Holds l.r (up_to l.first l.b)
-
-abbrev pub decreases-loop-b : goal.decreases-loop-b
-decreases-loop-b l = l.last + 1 - l.b
+invariant-loop-b l = (l.b ≤ max l.first (l.last + 1)) × Holds l.r (up_to l.first l.b)

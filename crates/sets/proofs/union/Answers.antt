@@ -1,15 +1,11 @@
-use mathlib.Core.Path.{refl}
 use Prim.Native.Nat.{◌/◌, ◌%◌}
 use lib.ListN.{get_or}
 use lib.Bits.{or_lt}
 use borrow.Author.Rules.{rules}
 use Rattle.sets.specs.Sets.{has, Formed}
 use Rattle.sets.specs.Bits.{bit_or_lem}
-use Rattle.sets.specs.Laws.{words_none, words_more, words_hold, formed_of}
+use Rattle.sets.specs.Laws.{words_more, words_hold, formed_of}
 use Rattle.sets.proofs.union.Goals as goal
-
-pub loop-i-init : goal.loop-i-init
-loop-i-init c = words_none refl
 
 pub loop-i-preserved : goal.loop-i-preserved
 loop-i-preserved c = words_more c.loop-i.invariant (search rules)

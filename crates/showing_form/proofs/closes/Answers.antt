@@ -1,75 +1,94 @@
 -- Each test, both ways.
-use borrow.Author.Rules.{rules}
-use native.Mathlib.Omega.{arith}
-use mathlib.Core.Path.{sym, subst, ◌∙◌}
-use mathlib.Core.Bool.{Bool}
-use borrow.Author.Tests.{not-true, not-false}
+use Rattle.std.proofs.Common.{sym, arith, rules}
 use Rattle.sets.specs.Laws.{formed_of}
-use Rattle.showing_form.specs.Stack.{Walks, stack_few}
+use Rattle.showing_form.specs.Stack.{stack_few}
 use Rattle.showing_form.specs.Blank.{blank}
 use Rattle.showing_form.specs.Closing.{fails_shape, fails_few, fails_order, fails_told, items_there, some_made, closes_one}
 use Rattle.showing_form.proofs.closes.Goals as goal
 
-pub returns-then-not-shaped : goal.returns-then-not-shaped
-returns-then-not-shaped c =
+pub returns-then-not-shaped-clause-exact : goal.returns-then-not-shaped-clause-exact
+returns-then-not-shaped-clause-exact c =
+    let k = c.word-kind in
+    let o = c.word-operand in
+    let n = c.word-items in
+    let l = c.last_words-last in
     record {
       passed = λ h. absurd (omega arith);
-      failed = λ z l s o. fails_shape c.requires.1 c.word-kind.result c.word-operand.result c.word-items.result c.last_words-last.result c.word-kind.ensures c.word-operand.ensures
-          c.word-items.ensures c.last_words-last.ensures s o (sym c.shaped.ensures ∙ not-true c.shaped.result c.if-not-shaped.true-raw);
+      failed = λ z list s on.
+          fails_shape c.requires.1 k.result o.result n.result l.result k.ensures o.ensures n.ensures l.ensures s on
+          (sym c.if-not-shaped.ensures);
     }
 
-pub returns-then-count-items : goal.returns-then-count-items
-returns-then-count-items c =
+pub returns-then-count-items-clause-exact : goal.returns-then-count-items-clause-exact
+returns-then-count-items-clause-exact c =
+    let k = c.word-kind in
+    let o = c.word-operand in
+    let n = c.word-items in
+    let l = c.last_words-last in
     record {
       passed = λ h. absurd (omega arith);
-      failed = λ z l s o. fails_few c.requires.1 c.word-kind.result c.word-operand.result c.word-items.result c.last_words-last.result c.word-kind.ensures c.word-operand.ensures
-          c.word-items.ensures c.last_words-last.ensures s o c.if-count-items.true;
+      failed = λ z list s on.
+          fails_few c.requires.1 k.result o.result n.result l.result k.ensures o.ensures n.ensures l.ensures s on
+          c.if-count-items.true;
     }
 
 pub ordered-requires : goal.ordered-requires
 ordered-requires c =
-    items_there c.requires.1 c.word-kind.result c.word-operand.result c.word-items.result c.last_words-last.result c.word-kind.ensures c.word-operand.ensures
-    c.word-items.ensures c.last_words-last.ensures c.requires.0.is c.if-count-items.false
+    let k = c.word-kind in
+    let o = c.word-operand in
+    let n = c.word-items in
+    let l = c.last_words-last in
+    items_there c.requires.1 k.result o.result n.result l.result k.ensures o.ensures n.ensures l.ensures c.requires.0.is
+    c.if-count-items.false
 
-pub returns-then-not-ordered : goal.returns-then-not-ordered
-returns-then-not-ordered c =
-    let no = not-true c.ordered.result c.if-not-ordered.true-raw in
+pub returns-then-not-ordered-clause-exact : goal.returns-then-not-ordered-clause-exact
+returns-then-not-ordered-clause-exact c =
+    let k = c.word-kind in
+    let o = c.word-operand in
+    let n = c.word-items in
+    let l = c.last_words-last in
     record {
       passed = λ h. absurd (omega arith);
-      failed = λ z l s o. fails_order c.requires.1 c.word-kind.result c.word-operand.result c.word-items.result c.last_words-last.result c.word-kind.ensures c.word-operand.ensures
-          c.word-items.ensures c.last_words-last.ensures s o
-          (subst (λ (b : Bool). Walks b c.args.table.now c.args.top c.word-kind.result c.word-operand.result c.word-items.result) no c.ordered.ensures);
+      failed = λ z list s on.
+          fails_order c.requires.1 k.result o.result n.result l.result k.ensures o.ensures n.ensures l.ensures s on
+          c.if-not-ordered.ensures;
     }
 
 pub derive-d-requires : goal.derive-d-requires
 derive-d-requires c =
-    let yes = not-false c.ordered.result c.if-not-ordered.false-raw in
-    some_made c.requires.1 c.word-kind.result c.word-operand.result c.word-items.result c.last_words-last.result c.word-kind.ensures c.word-operand.ensures
-    c.word-items.ensures c.last_words-last.ensures c.requires.0.is c.if-count-items.false (search (rules, formed_of)) blank
-    (sym c.shaped.ensures ∙ not-false c.shaped.result c.if-not-shaped.false-raw)
-    (subst (λ (b : Bool). Walks b c.args.table.now c.args.top c.word-kind.result c.word-operand.result c.word-items.result) yes c.ordered.ensures)
-    c.requires.2
+    let k = c.word-kind in
+    let o = c.word-operand in
+    let n = c.word-items in
+    let l = c.last_words-last in
+    some_made c.requires.1 k.result o.result n.result l.result k.ensures o.ensures n.ensures l.ensures c.requires.0.is
+    c.if-count-items.false (search (rules, formed_of)) blank (sym c.if-not-shaped.ensures) c.if-not-ordered.ensures c.requires.2
 
-pub returns-then-not-derived_told : goal.returns-then-not-derived_told
-returns-then-not-derived_told c =
+pub returns-then-not-derived_told-clause-exact : goal.returns-then-not-derived_told-clause-exact
+returns-then-not-derived_told-clause-exact c =
+    let k = c.word-kind in
+    let o = c.word-operand in
+    let n = c.word-items in
+    let l = c.last_words-last in
     record {
       passed = λ h. absurd (omega arith);
-      failed = λ z l s o. fails_told c.requires.1 c.word-kind.result c.word-operand.result c.word-items.result c.last_words-last.result c.word-kind.ensures c.word-operand.ensures
-          c.word-items.ensures c.last_words-last.ensures s o c.derive-d.result c.derive-d.ensures (sym c.derived_told.ensures ∙ not-true c.derived_told.result c.if-not-derived_told.true-raw);
+      failed = λ z list s on.
+          fails_told c.requires.1 k.result o.result n.result l.result k.ensures o.ensures n.ensures l.ensures s on
+          c.derive-d.result c.derive-d.ensures (sym c.if-not-derived_told.ensures);
     }
 
 pub overflow_add-result : goal.overflow_add-result
-overflow_add-result c =
-    omega (arith, stack_few c.requires.0)
+overflow_add-result c = omega (arith, stack_few c.requires.0)
 
-pub returns : goal.returns
-returns c =
-    let yes = not-false c.ordered.result c.if-not-ordered.false-raw in
+pub returns-clause-exact : goal.returns-clause-exact
+returns-clause-exact c =
+    let k = c.word-kind in
+    let o = c.word-operand in
+    let n = c.word-items in
+    let l = c.last_words-last in
     record {
-      passed = λ h. closes_one c.requires.1 c.word-kind.result c.word-operand.result c.word-items.result c.last_words-last.result c.word-kind.ensures c.word-operand.ensures
-          c.word-items.ensures c.last_words-last.ensures c.requires.0.is c.if-count-items.false (search (rules, formed_of)) blank
-          (sym c.shaped.ensures ∙ not-false c.shaped.result c.if-not-shaped.false-raw)
-          (subst (λ (b : Bool). Walks b c.args.table.now c.args.top c.word-kind.result c.word-operand.result c.word-items.result) yes c.ordered.ensures)
-          c.derive-d.result c.derive-d.ensures (sym c.derived_told.ensures ∙ not-false c.derived_told.result c.if-not-derived_told.false-raw);
+      passed = λ h.
+          closes_one c.requires.1 k.result o.result n.result l.result k.ensures o.ensures n.ensures l.ensures c.requires.0.is
+          c.if-count-items.false (search (rules, formed_of)) blank (sym c.if-not-shaped.ensures) c.if-not-ordered.ensures
+          c.derive-d.result c.derive-d.ensures (sym c.if-not-derived_told.ensures);
       failed = λ z. absurd (omega arith);
     }

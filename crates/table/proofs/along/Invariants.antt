@@ -6,8 +6,5 @@ use Rattle.table.specs.Stands.{Series}
 use Rattle.table.proofs.Walk.{Walk}
 use Rattle.table.proofs.along.Given as goal
 
-abbrev pub invariant-loop-left : goal.invariant-loop-left
-invariant-loop-left l = (before : List ℕ) (nodes : List Node) → Series l.table l.top l.items before nodes → Walk nodes l.left l.all
-
-abbrev pub decreases-loop-left : goal.decreases-loop-left
-decreases-loop-left l = l.left
+abbrev pub invariant-loop : goal.invariant-loop
+invariant-loop l = (before : List ℕ) (nodes : List Node) → Series l.table l.top l.items before nodes → Walk nodes l.counter l.all

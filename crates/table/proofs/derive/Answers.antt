@@ -1,10 +1,6 @@
 use native.Mathlib.Omega.{arith}
 use Rattle.table.proofs.Made.{leaf_derives, some_series, closing, records_fit, group_derives, other_derives}
-use borrow.Author.Rules.{rules}
 use Rattle.table.proofs.derive.Goals as goal
-
-pub leaf-requires : goal.leaf-requires
-leaf-requires c = search rules
 
 pub returns-then-kind-le-ASSERTION : goal.returns-then-kind-le-ASSERTION
 returns-then-kind-le-ASSERTION c = rw c.leaf.ensures (leaf_derives c.if-kind-le-ASSERTION.true)
@@ -19,14 +15,11 @@ pub overflow_add-records : goal.overflow_add-records
 overflow_add-records c =
     omega (arith, records_fit c.requires c.if-kind-le-ASSERTION.false c.along-inside.ensures, c.requires.low)
 
-pub higher-requires : goal.higher-requires
-higher-requires c = search rules
-
 pub returns-then-kind-eq-GROUP : goal.returns-then-kind-eq-GROUP
 returns-then-kind-eq-GROUP c =
     group_derives c.if-kind-le-ASSERTION.false c.along-inside.ensures
     c.if-kind-eq-GROUP.true
-    c.closed_size-size.ensures c.higher.ensures
+    c.closed_size-size.ensures c.max.ensures
 
 pub returns : goal.returns
 returns c =

@@ -1,93 +1,68 @@
--- Each arm carries out the law of its number, and no other number has a law. Assumes nothing.
+-- Each arm carries out its law. Assumes nothing.
+use mathlib.Core.Path.{ap}
+use mathlib.Core.Logic.{⊎_elim}
 use native.Mathlib.Omega.{arith}
 use Rattle.tidying_laws.specs.List.{laws}
-use Rattle.tidying_laws.specs.ByNumber.{law_count}
-use Rattle.tidying_laws.proofs.ByNumber.{none_of}
-use Rattle.tidying_rewriting.proofs.Carried.{carried, fits_carried, carries, carries_none}
+use Rattle.tidying_laws.specs.ByNumber.{law_count, number_of}
+use Rattle.tidying_rewriting.proofs.Carried.{carried, fits_carried, carries}
 use Rattle.tidying.proofs.rewrite.Goals as goal
 
 pub drop_empty-requires : goal.drop_empty-requires
 unfolding carried law_count laws
-drop_empty-requires c = fits_carried 1 c.in-1.is (omega arith) c.requires
+drop_empty-requires c = fits_carried 1 (ap number_of c.in-T1.is) (omega arith) c.requires
 
 pub unquantify-requires : goal.unquantify-requires
 unfolding carried law_count laws
-unquantify-requires c = fits_carried 2 c.in-2.is (omega arith) c.requires
-
-pub unquantify-requires-in-3 : goal.unquantify-requires-in-3
-unfolding carried law_count laws
-unquantify-requires-in-3 c = fits_carried 3 c.in-3.is (omega arith) c.requires
-
-pub unquantify-requires-in-4 : goal.unquantify-requires-in-4
-unfolding carried law_count laws
-unquantify-requires-in-4 c = fits_carried 4 c.in-4.is (omega arith) c.requires
+unquantify-requires c =
+    ⊎_elim (λ e. fits_carried 2 (ap number_of e) (omega arith) c.requires)
+    (⊎_elim (λ e. fits_carried 3 (ap number_of e) (omega arith) c.requires)
+    (⊎_elim (λ e. fits_carried 4 (ap number_of e) (omega arith) c.requires)
+    (λ e. fits_carried 10 (ap number_of e) (omega arith) c.requires))) c.in-T2.is
 
 pub unnest-requires : goal.unnest-requires
 unfolding carried law_count laws
-unnest-requires c = fits_carried 5 c.in-5.is (omega arith) c.requires
+unnest-requires c =
+    ⊎_elim (λ e. fits_carried 5 (ap number_of e) (omega arith) c.requires)
+    (λ e. fits_carried 9 (ap number_of e) (omega arith) c.requires) c.in-T5.is
 
 pub drop_alternative-requires : goal.drop_alternative-requires
 unfolding carried law_count laws
-drop_alternative-requires c = fits_carried 6 c.in-6.is (omega arith) c.requires
+drop_alternative-requires c = fits_carried 6 (ap number_of c.in-T6.is) (omega arith) c.requires
 
 pub void-requires : goal.void-requires
 unfolding carried law_count laws
-void-requires c = fits_carried 7 c.in-7.is (omega arith) c.requires
+void-requires c = fits_carried 7 (ap number_of c.in-T7.is) (omega arith) c.requires
 
 pub share-requires : goal.share-requires
 unfolding carried law_count laws
-share-requires c = fits_carried 8 c.in-8.is (omega arith) c.requires
+share-requires c = fits_carried 8 (ap number_of c.in-T8.is) (omega arith) c.requires
 
-pub unnest-requires-in-9 : goal.unnest-requires-in-9
+pub returns-in-T1 : goal.returns-in-T1
 unfolding carried law_count laws
-unnest-requires-in-9 c = fits_carried 9 c.in-9.is (omega arith) c.requires
+returns-in-T1 c = carries 1 (ap number_of c.in-T1.is) (omega arith) c.drop_empty.ensures
 
-pub unquantify-requires-in-10 : goal.unquantify-requires-in-10
+pub returns-in-T2 : goal.returns-in-T2
 unfolding carried law_count laws
-unquantify-requires-in-10 c = fits_carried 10 c.in-10.is (omega arith) c.requires
+returns-in-T2 c =
+    ⊎_elim (λ e. carries 2 (ap number_of e) (omega arith) c.unquantify.ensures)
+    (⊎_elim (λ e. carries 3 (ap number_of e) (omega arith) c.unquantify.ensures)
+    (⊎_elim (λ e. carries 4 (ap number_of e) (omega arith) c.unquantify.ensures)
+    (λ e. carries 10 (ap number_of e) (omega arith) c.unquantify.ensures))) c.in-T2.is
 
-pub returns-in-1 : goal.returns-in-1
+pub returns-in-T5 : goal.returns-in-T5
 unfolding carried law_count laws
-returns-in-1 c = carries 1 c.in-1.is (omega arith) c.drop_empty.ensures
+returns-in-T5 c =
+    ⊎_elim (λ e. carries 5 (ap number_of e) (omega arith) c.unnest.ensures)
+    (λ e. carries 9 (ap number_of e) (omega arith) c.unnest.ensures) c.in-T5.is
 
-pub returns-in-2 : goal.returns-in-2
+pub returns-in-T6 : goal.returns-in-T6
 unfolding carried law_count laws
-returns-in-2 c = carries 2 c.in-2.is (omega arith) c.unquantify.ensures
+returns-in-T6 c = carries 6 (ap number_of c.in-T6.is) (omega arith) c.drop_alternative.ensures
 
-pub returns-in-3 : goal.returns-in-3
+pub returns-in-T7 : goal.returns-in-T7
 unfolding carried law_count laws
-returns-in-3 c = carries 3 c.in-3.is (omega arith) c.unquantify-in-3.ensures
+returns-in-T7 c = carries 7 (ap number_of c.in-T7.is) (omega arith) c.void.ensures
 
-pub returns-in-4 : goal.returns-in-4
+pub returns-in-T8 : goal.returns-in-T8
 unfolding carried law_count laws
-returns-in-4 c = carries 4 c.in-4.is (omega arith) c.unquantify-in-4.ensures
-
-pub returns-in-5 : goal.returns-in-5
-unfolding carried law_count laws
-returns-in-5 c = carries 5 c.in-5.is (omega arith) c.unnest.ensures
-
-pub returns-in-6 : goal.returns-in-6
-unfolding carried law_count laws
-returns-in-6 c = carries 6 c.in-6.is (omega arith)
-    c.drop_alternative.ensures
-
-pub returns-in-7 : goal.returns-in-7
-unfolding carried law_count laws
-returns-in-7 c = carries 7 c.in-7.is (omega arith) c.void.ensures
-
-pub returns-in-8 : goal.returns-in-8
-unfolding carried law_count laws
-returns-in-8 c = carries 8 c.in-8.is (omega arith) c.share.ensures
-
-pub returns-in-9 : goal.returns-in-9
-unfolding carried law_count laws
-returns-in-9 c = carries 9 c.in-9.is (omega arith) c.unnest-in-9.ensures
-
-pub returns-in-10 : goal.returns-in-10
-unfolding carried law_count laws
-returns-in-10 c = carries 10 c.in-10.is (omega arith)
-    c.unquantify-in-10.ensures
-
-pub returns-in_default : goal.returns-in_default
-unfolding carried law_count laws
-returns-in_default c = carries_none (none_of law_count _ c.in_default.in_default-own.rest)
+returns-in-T8 c = carries 8 (ap number_of c.in-T8.is) (omega arith) c.share.ensures

@@ -7,16 +7,16 @@ use Rattle.tidying.proofs.step.Goals as goal
 pub rewrite-made-requires : goal.rewrite-made-requires
 rewrite-made-requires c numbered = some_fitting c.requires.pattern.held c.requires.finds
 
-pub overflow_add-top : goal.overflow_add-top
-overflow_add-top c =
+pub overflow_add-found : goal.overflow_add-found
+overflow_add-found c =
     omega (arith, made_few c.requires.pattern.held c.requires.finds c.rewrite-made.ensures)
 
-pub overflow_sub-top : goal.overflow_sub-top
-overflow_sub-top c =
+pub overflow_sub-found : goal.overflow_sub-found
+overflow_sub-found c =
     omega (arith, made_few c.requires.pattern.held c.requires.finds c.rewrite-made.ensures)
 
-pub overflow_sub-top-2 : goal.overflow_sub-top-2
-overflow_sub-top-2 c =
+pub overflow_sub-found-2 : goal.overflow_sub-found-2
+overflow_sub-found-2 c =
     omega (arith, made_few c.requires.pattern.held c.requires.finds c.rewrite-made.ensures)
 
 pub merge-count-requires : goal.merge-count-requires

@@ -5,8 +5,8 @@ use Rattle.tidying_laws.specs.Measures.{weight}
 use Rattle.tidying.specs.Tidies.{Along, pattern_in}
 use Rattle.tidying.proofs.tidy.Given as goal
 
-abbrev pub invariant-loop-top : goal.invariant-loop-top
-invariant-loop-top l = Along l.initial.table l.table l.n l.count × (length l.table ≡ length l.initial.table)
+abbrev pub invariant-loop-found : goal.invariant-loop-found
+invariant-loop-found l = Along l.initial.table l.table l.n l.count × (length l.table ≡ length l.initial.table)
 
-abbrev pub decreases-loop-top : goal.decreases-loop-top
-decreases-loop-top l = weight (pattern_in l.table l.count)
+abbrev pub decreases-loop-found : goal.decreases-loop-found
+decreases-loop-found l = weight (pattern_in l.table l.count)

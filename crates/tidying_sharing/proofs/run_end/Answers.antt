@@ -12,33 +12,28 @@ begins_alike-alike-requires c =
     (first_there b, last_there b c.loop-end-test.true)
 
 pub start-end-requires : goal.start-end-requires
-start-end-requires c =
-    last_there (one_back c.requires c.loop-end.invariant) c.loop-end-test.true
+start-end-requires c = last_there (one_back c.requires c.loop-end.invariant) c.loop-end-test.true
 
-pub loop-end-smaller-then-alike : goal.loop-end-smaller-then-alike
-loop-end-smaller-then-alike c =
+pub loop-end-smaller-then-not-alike : goal.loop-end-smaller-then-not-alike
+loop-end-smaller-then-not-alike c =
     back_less (one_back c.requires c.loop-end.invariant) c.loop-end-test.true c.start-end.ensures
 
-pub loop-end-preserved-then-alike : goal.loop-end-preserved-then-alike
-loop-end-preserved-then-alike c =
-    record {
-      by = λ before front q more k.
-          back_alike (c.loop-end.invariant.by before front q more k) c.loop-end-test.true
-          c.begins_alike-alike.ensures c.start-end.ensures c.if-alike.true;
-    }
+pub loop-end-preserved-then-not-alike : goal.loop-end-preserved-then-not-alike
+loop-end-preserved-then-not-alike c = record {
+  by = λ before front q more k.
+      back_other (c.loop-end.invariant.by before front q more k) c.loop-end-test.true c.begins_alike-alike.ensures
+      c.start-end.ensures c.if-not-alike.true;
+}
 
 pub loop-end-smaller : goal.loop-end-smaller
-loop-end-smaller c =
-    back_less (one_back c.requires c.loop-end.invariant) c.loop-end-test.true c.start-end.ensures
+loop-end-smaller c = back_less (one_back c.requires c.loop-end.invariant) c.loop-end-test.true c.start-end.ensures
 
 pub loop-end-preserved : goal.loop-end-preserved
-loop-end-preserved c =
-    record {
-      by = λ before front q more k.
-          back_other (c.loop-end.invariant.by before front q more k) c.loop-end-test.true
-          c.begins_alike-alike.ensures c.start-end.ensures c.if-alike.false;
-    }
+loop-end-preserved c = record {
+  by = λ before front q more k.
+      back_alike (c.loop-end.invariant.by before front q more k) c.loop-end-test.true c.begins_alike-alike.ensures
+      c.start-end.ensures c.if-not-alike.false;
+}
 
 pub returns : goal.returns
-returns c =
-    backs_end c.loop-end-test.false c.loop-end.invariant
+returns c = backs_end c.loop-end-test.false c.loop-end.invariant

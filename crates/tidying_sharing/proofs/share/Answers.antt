@@ -1,7 +1,6 @@
 -- The run is found and its alternatives are trimmed; the alternation's own record is set; the shared set is put before.
-use Prim.Native.Nat.{◌+◌, ◌-◌, ◌*◌}
 use native.Mathlib.Omega.{arith}
-use Rattle.table.specs.Table.{record_words, records_word}
+use borrow.Author.Rules.{rules}
 use Rattle.tidying_rewriting.specs.Rewriting.{within}
 use Rattle.tidying_sharing.specs.Sharing.{Room, some_sharing, set_there, running_there, rejoin_room, wrap_room, shares}
 use Rattle.tidying_sharing.proofs.share.Goals.{After-shorten-left}
@@ -9,30 +8,29 @@ use Rattle.tidying_sharing.proofs.share.Goals as goal
 
 -- What is there once the alternatives are trimmed.
 room : (c : After-shorten-left) → Room c.args.table.now c.shorten-left.new.table c.args.n c.args.top
-    c.leftmost_run-run.result.stop c.shorten-left.result.n c.shorten-left.result.trimmed c.word-items.result
+    c.leftmost_run-from.result.stop c.shorten-left.result.n c.shorten-left.result.trimmed c.word-items.result
 room c =
-    rejoin_room c.requires.fitting c.leftmost_run-run.ensures c.shorten-left.ensures
+    rejoin_room c.requires.fitting c.leftmost_run-from.ensures c.shorten-left.ensures
     c.word-items.ensures
 
 pub word-items-requires : goal.word-items-requires
 word-items-requires c = omega (arith, within c.requires.fitting.placed)
 
-pub leftmost_run-run-requires : goal.leftmost_run-run-requires
-leftmost_run-run-requires c = some_sharing c.requires
+pub leftmost_run-from-requires : goal.leftmost_run-from-requires
+leftmost_run-from-requires c = some_sharing c.requires
 
 pub overflow_add-from : goal.overflow_add-from
 overflow_add-from c =
-    let room = (set_there c.requires.fitting c.leftmost_run-run.ensures).0 in
+    let room = (set_there c.requires.fitting c.leftmost_run-from.ensures).0 in
     omega arith
 
 pub last_words-set-requires : goal.last_words-set-requires
 last_words-set-requires c =
-    (omega arith, (set_there c.requires.fitting c.leftmost_run-run.ensures).0)
+    (omega arith, (set_there c.requires.fitting c.leftmost_run-from.ensures).0)
 
 pub shorten-left-requires : goal.shorten-left-requires
 shorten-left-requires c =
-    let records = record_words * (c.args.top - 1) + records_word in
-    running_there c.requires.fitting c.leftmost_run-run.ensures (omega (arith, c.slice_known-1.given records))
+    running_there c.requires.fitting c.leftmost_run-from.ensures (search rules)
 
 pub overflow_add-top : goal.overflow_add-top
 overflow_add-top c = omega (arith, room (goal.at.overflow_add-top c).After-shorten-left)
@@ -57,11 +55,11 @@ overflow_sub-stop c = omega (arith, room (goal.at.overflow_sub-stop c).After-sho
 
 pub wrap-requires : goal.wrap-requires
 wrap-requires c =
-    let room = wrap_room c.requires.fitting c.leftmost_run-run.ensures c.shorten-left.ensures
+    let room = wrap_room c.requires.fitting c.leftmost_run-from.ensures c.shorten-left.ensures
     c.word-items.ensures c.rejoin-count.ensures in
     omega (arith, c.last_words-set.type_inv)
 
 pub returns : goal.returns
 returns c =
-    shares c.leftmost_run-run.ensures c.last_words-set.ensures c.shorten-left.ensures c.word-items.ensures
+    shares c.leftmost_run-from.ensures c.last_words-set.ensures c.shorten-left.ensures c.word-items.ensures
     c.rejoin-count.ensures c.wrap.ensures

@@ -4,8 +4,8 @@ use lib.ListN.{length}
 use Rattle.reading_atoms.specs.BraceLaws.{Digits}
 use Rattle.reading_atoms.proofs.braces.number_at.Given as goal
 
-abbrev pub invariant-loop-at : goal.invariant-loop-at
-invariant-loop-at l = Digits l.s l.at l.value l.end
+abbrev pub invariant-loop-digit : goal.invariant-loop-digit
+invariant-loop-digit l = Digits l.s l.at l.value l.end
 
-abbrev pub decreases-loop-at : goal.decreases-loop-at
-decreases-loop-at l = length l.s - l.end
+abbrev pub decreases-loop-digit : goal.decreases-loop-digit
+decreases-loop-digit l = length l.s - l.end

@@ -1,70 +1,26 @@
 -- Each return goes by the byte at the place; counts are taken apart, or their refusal is passed on.
-use mathlib.Core.Path.{refl, sym, ap, ◌∙◌}
-use native.Mathlib.Omega.{arith}
-use borrow.Author.Tests.{ne_eqb}
+use mathlib.Core.Path.{sym, ◌∙◌}
 use Rattle.reading_atoms.specs.Braces.{quantifier_at}
-use Rattle.reading_atoms.specs.Answers.{braces_of}
-use Rattle.reading_atoms.specs.Places.{byte_within}
 use Rattle.reading_atoms.specs.BraceLaws.{counts_ordered}
 use Rattle.reading_atoms.proofs.braces.quantifier_at.Goals as goal
 
-pub overflow_add-at : goal.overflow_add-at
-overflow_add-at c =
-    omega (arith, byte_within c.args.s.now c.args.at (λ e. omega (arith, c.byte_at-b.ensures, c.if-b-eq-STAR.true)))
+pub lazily-requires-in-Some-eq123 : goal.lazily-requires-in-Some-eq123
+lazily-requires-in-Some-eq123 c =
+    counts_ordered c.args.s.now c.args.at c.in-Counts.min c.in-Counts.max c.in-Counts.end c.in-Counts.ensures
 
-pub returns-then-b-eq-STAR : goal.returns-then-b-eq-STAR
+pub returns-in-Some-eq42 : goal.returns-in-Some-eq42
 unfolding quantifier_at
-returns-then-b-eq-STAR c =
-    rw (sym c.byte_at-b.ensures ∙ c.if-b-eq-STAR.true) (c.lazily.ensures c.args.at)
+returns-in-Some-eq42 c = rw (sym c.in-Some-eq42.ensures ∙ c.in-Some-eq42.field-0-test) (c.lazily.ensures c.args.at)
 
-pub overflow_add-at-then-b-eq-PLUS : goal.overflow_add-at-then-b-eq-PLUS
-overflow_add-at-then-b-eq-PLUS c =
-    omega (arith, byte_within c.args.s.now c.args.at (λ e. omega (arith, c.byte_at-b.ensures, c.if-b-eq-PLUS.true)))
-
-pub returns-then-b-eq-PLUS : goal.returns-then-b-eq-PLUS
+pub returns-in-Some-eq43 : goal.returns-in-Some-eq43
 unfolding quantifier_at
-returns-then-b-eq-PLUS c =
-    rw (sym c.byte_at-b.ensures ∙ c.if-b-eq-PLUS.true) (c.lazily-then-b-eq-PLUS.ensures c.args.at)
+returns-in-Some-eq43 c = rw (sym c.in-Some-eq43.ensures ∙ c.in-Some-eq43.field-0-test) (c.lazily-in-Some-eq43.ensures c.args.at)
 
-pub overflow_add-at-then-b-eq-QUESTION : goal.overflow_add-at-then-b-eq-QUESTION
-overflow_add-at-then-b-eq-QUESTION c =
-    omega (arith, byte_within c.args.s.now c.args.at (λ e. omega (arith, c.byte_at-b.ensures, c.if-b-eq-QUESTION.true)))
-
-pub returns-then-b-eq-QUESTION : goal.returns-then-b-eq-QUESTION
+pub returns-in-Some-eq63 : goal.returns-in-Some-eq63
 unfolding quantifier_at
-returns-then-b-eq-QUESTION c =
-    rw (sym c.byte_at-b.ensures ∙ c.if-b-eq-QUESTION.true) (c.lazily-then-b-eq-QUESTION.ensures c.args.at)
+returns-in-Some-eq63 c = rw (sym c.in-Some-eq63.ensures ∙ c.in-Some-eq63.field-0-test) (c.lazily-in-Some-eq63.ensures c.args.at)
 
-pub returns-then-b-ne-OPEN_BRACE : goal.returns-then-b-ne-OPEN_BRACE
+pub returns-in-Counts : goal.returns-in-Counts
 unfolding quantifier_at
-returns-then-b-ne-OPEN_BRACE c =
-    rw (
-      ← c.byte_at-b.ensures,
-      ne_eqb _ _ c.if-b-eq-STAR.false,
-      ne_eqb _ _ c.if-b-eq-PLUS.false,
-      ne_eqb _ _ c.if-b-eq-QUESTION.false,
-      ne_eqb _ _ c.if-b-ne-OPEN_BRACE.true,
-    )
-    (record { same = refl; ordered = tt })
-
-pub braces_at-found-requires : goal.braces_at-found-requires
-braces_at-found-requires c =
-    byte_within c.args.s.now c.args.at (λ e. omega (arith, c.byte_at-b.ensures, c.if-b-ne-OPEN_BRACE.false))
-
-pub returns-in_default : goal.returns-in_default
-unfolding quantifier_at
-returns-in_default c =
-    record {
-      same = rw (sym c.byte_at-b.ensures ∙ c.if-b-ne-OPEN_BRACE.false, ← c.braces_at-found.ensures, c.number_of.ensures, c.in_default.is);
-      ordered = tt;
-    }
-
-pub lazily-requires-2 : goal.lazily-requires-2
-lazily-requires-2 c =
-    counts_ordered c.args.s.now c.args.at c.in-Counts.min c.in-Counts.max c.in-Counts.end
-    (sym (ap braces_of c.in-Counts.is) ∙ c.braces_at-found.ensures)
-
-pub returns : goal.returns
-unfolding quantifier_at
-returns c =
-    rw (sym c.byte_at-b.ensures ∙ c.if-b-ne-OPEN_BRACE.false, ← c.braces_at-found.ensures, c.in-Counts.is) (c.lazily-2.ensures c.args.at)
+returns-in-Counts c =
+    rw (sym c.in-Some-eq123.ensures ∙ c.in-Some-eq123.field-0-test, ← c.in-Counts.ensures) (c.lazily-in-Some-eq123.ensures c.args.at)

@@ -4,8 +4,8 @@ use lib.ListN.{length}
 use Rattle.reading_atoms.specs.ClassLaws.{Reading}
 use Rattle.reading_atoms.proofs.classes.class_go.Given as goal
 
-abbrev pub invariant-loop-at : goal.invariant-loop-at
-invariant-loop-at l = Reading l.s l.negated l.from l.held l.at
+abbrev pub invariant-loop-read : goal.invariant-loop-read
+invariant-loop-read l = Reading l.s l.negated l.from l.read.set l.read.end
 
-abbrev pub decreases-loop-at : goal.decreases-loop-at
-decreases-loop-at l = length l.s - l.at
+abbrev pub decreases-loop-read : goal.decreases-loop-read
+decreases-loop-read l = length l.s - l.read.end

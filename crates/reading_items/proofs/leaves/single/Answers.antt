@@ -11,121 +11,66 @@ use Rattle.reading_atoms.specs.Places.{byte_there}
 use Rattle.reading_items.specs.Reading.{set_item}
 use Rattle.reading_items.proofs.Singles.{meet, meet_no, fine_on, no_atom_lem, class_item_lem, escape_item_lem, dot_item, caret_item}
 use Rattle.reading_items.proofs.Singles.{dollar_item, stray_item, other_item}
-use borrow.Author.Rules.{rules}
 use Rattle.reading_items.proofs.leaves.single.Goals as goal
-
-pub bounds-s-at : goal.bounds-s-at
-bounds-s-at c = search rules
-
-pub is_quantifier-requires : goal.is_quantifier-requires
-is_quantifier-requires c = search rules
 
 pub returns-then-is_quantifier : goal.returns-then-is_quantifier
 returns-then-is_quantifier c =
-    meet_no (no_atom_lem c.args.s.now c.args.at c.args.groups c.requires.1 _ refl
+    meet_no (no_atom_lem c.args.s.now c.args.from.at c.args.from.groups c.requires.1 _ refl
     (sym c.is_quantifier.ensures ∙ c.if-is_quantifier.true)) (omega arith)
-
-pub class_item-requires : goal.class_item-requires
-class_item-requires c = search rules
-
-pub escape_item-requires : goal.escape_item-requires
-escape_item-requires c = search rules
-
-pub overflow_add-at : goal.overflow_add-at
-overflow_add-at c = search rules
-
-pub dot_set-requires : goal.dot_set-requires
-dot_set-requires c = search rules
 
 pub set_item-requires : goal.set_item-requires
 set_item-requires c =
-    (fine_on (c.args.at + 1) c.requires.0 (omega arith) (omega (arith, c.requires.1)), rw c.dot_set.ensures (set_of_holds is_dot).formed)
-
-pub overflow_add-at-in-94 : goal.overflow_add-at-in-94
-overflow_add-at-in-94 c = search rules
-
-pub assertion-requires : goal.assertion-requires
-assertion-requires c = search rules
-
-pub overflow_add-at-in-36 : goal.overflow_add-at-in-36
-overflow_add-at-in-36 c = search rules
-
-pub assertion-requires-in-36 : goal.assertion-requires-in-36
-assertion-requires-in-36 c = search rules
-
-pub overflow_add-at-in_default : goal.overflow_add-at-in_default
-overflow_add-at-in_default c = search rules
-
-pub literal_set-requires : goal.literal_set-requires
-literal_set-requires c = search rules
+    (fine_on (c.args.from.at + 1) c.requires.0 (omega arith) (omega (arith, c.requires.1)), rw c.dot_set.ensures (set_of_holds is_dot).formed)
 
 pub set_item-requires-in_default : goal.set_item-requires-in_default
 set_item-requires-in_default c = (
-  fine_on (c.args.at + 1) c.requires.0 (omega arith) (omega (arith, c.requires.1)),
+  fine_on (c.args.from.at + 1) c.requires.0 (omega arith) (omega (arith, c.requires.1)),
   rw c.literal_set.ensures
-      (set_of_holds (takes (get_or c.args.s.now c.args.at 0))).formed,
+      (set_of_holds (takes (get_or c.args.s.now c.args.from.at 0))).formed,
 )
-
-pub shape_of-table-in-91 : goal.shape_of-table-in-91
-shape_of-table-in-91 c = search rules
 
 pub returns-in-91 : goal.returns-in-91
 returns-in-91 c =
-    meet _ (class_item_lem c.args.s.now c.args.at c.args.groups c.requires.1 c.in-91.is)
+    meet _ (class_item_lem c.args.s.now c.args.from.at c.args.from.groups c.requires.1 c.in-91.is)
     c.class_item.ensures
-
-pub shape_of-table-in-92 : goal.shape_of-table-in-92
-shape_of-table-in-92 c = search rules
 
 pub returns-in-92 : goal.returns-in-92
 returns-in-92 c =
-    meet _ (escape_item_lem c.args.s.now c.args.at c.args.groups c.requires.1 c.in-92.is)
+    meet _ (escape_item_lem c.args.s.now c.args.from.at c.args.from.groups c.requires.1 c.in-92.is)
     c.escape_item.ensures
-
-pub shape_of-table-in-46 : goal.shape_of-table-in-46
-shape_of-table-in-46 c = search rules
 
 pub returns-in-46 : goal.returns-in-46
 returns-in-46 c =
-    meet (set_item c.args.s.now c.dot_set.result (c.args.at + 1) c.args.groups)
-    (dot_item c.args.s.now c.args.at c.args.groups c.requires.1 c.in-46.is
-    ∙ ap (λ set. set_item c.args.s.now set (c.args.at + 1) c.args.groups) (sym c.dot_set.ensures))
+    meet (set_item c.args.s.now c.dot_set.result (c.args.from.at + 1) c.args.from.groups)
+    (dot_item c.args.s.now c.args.from.at c.args.from.groups c.requires.1 c.in-46.is
+    ∙ ap (λ set. set_item c.args.s.now set (c.args.from.at + 1) c.args.from.groups) (sym c.dot_set.ensures))
     c.set_item.ensures
-
-pub shape_of-table-in-94 : goal.shape_of-table-in-94
-shape_of-table-in-94 c = search rules
 
 pub returns-in-94 : goal.returns-in-94
 returns-in-94 c =
-    meet _ (caret_item c.args.s.now c.args.at c.args.groups c.requires.1 c.in-94.is)
+    meet _ (caret_item c.args.s.now c.args.from.at c.args.from.groups c.requires.1 c.in-94.is)
     c.assertion.ensures
-
-pub shape_of-table-in-36 : goal.shape_of-table-in-36
-shape_of-table-in-36 c = search rules
 
 pub returns-in-36 : goal.returns-in-36
 returns-in-36 c =
-    meet _ (dollar_item c.args.s.now c.args.at c.args.groups c.requires.1 c.in-36.is)
+    meet _ (dollar_item c.args.s.now c.args.from.at c.args.from.groups c.requires.1 c.in-36.is)
     c.assertion-in-36.ensures
 
 pub returns-in-93 : goal.returns-in-93
 returns-in-93 c =
     ⊎_elim
-    (λ e. meet_no (stray_item c.args.s.now c.args.at c.args.groups c.requires.1 close_bracket refl refl refl refl refl refl refl refl e)
+    (λ e. meet_no (stray_item c.args.s.now c.args.from.at c.args.from.groups c.requires.1 close_bracket refl refl refl refl refl refl refl refl e)
     (omega arith))
-    (λ e. meet_no (stray_item c.args.s.now c.args.at c.args.groups c.requires.1 close_brace refl refl refl refl refl refl refl refl e)
+    (λ e. meet_no (stray_item c.args.s.now c.args.from.at c.args.from.groups c.requires.1 close_brace refl refl refl refl refl refl refl refl e)
     (omega arith)) c.in-93.is
-
-pub shape_of-table-in_default : goal.shape_of-table-in_default
-shape_of-table-in_default c = search rules
 
 pub returns-in_default : goal.returns-in_default
 returns-in_default c =
-    meet (set_item c.args.s.now c.literal_set.result (c.args.at + 1) c.args.groups)
-    (other_item c.args.s.now c.args.at c.args.groups c.requires.1 _ refl
+    meet (set_item c.args.s.now c.literal_set.result (c.args.from.at + 1) c.args.from.groups)
+    (other_item c.args.s.now c.args.from.at c.args.from.groups c.requires.1 _ refl
     (sym c.is_quantifier.ensures
     ∙ c.if-is_quantifier.false)
-    (λ e. c.requires.2 (byte_there c.args.s.now c.args.at c.requires.1 ∙ e)) c.in_default.in_default-own.rest.0.0.0.0.0.1 c.in_default.in_default-own.rest.0.0.0.0.1
+    (λ e. c.requires.2 (byte_there c.args.s.now c.args.from.at c.requires.1 ∙ e)) c.in_default.in_default-own.rest.0.0.0.0.0.1 c.in_default.in_default-own.rest.0.0.0.0.1
     c.in_default.in_default-own.rest.0.0.0.1 c.in_default.in_default-own.rest.0.0.1 c.in_default.in_default-own.rest.0.1 (λ e. c.in_default.in_default-own.rest.1 (inl e)) (λ e. c.in_default.in_default-own.rest.1 (inr e))
-    ∙ ap (λ set. set_item c.args.s.now set (c.args.at + 1) c.args.groups) (sym c.literal_set.ensures))
+    ∙ ap (λ set. set_item c.args.s.now set (c.args.from.at + 1) c.args.from.groups) (sym c.literal_set.ensures))
     c.set_item-in_default.ensures

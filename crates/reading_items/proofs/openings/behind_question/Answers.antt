@@ -1,16 +1,10 @@
 use mathlib.Core.Path.{sym, ◌∙◌}
+use native.Mathlib.Omega.{arith}
+use borrow.Author.Tests.{not-true, not-false}
+use Rattle.reading_atoms.specs.Chars.{colon}
+use Rattle.reading_atoms.specs.Places.{byte_is, byte_other}
 use Rattle.reading_items.proofs.Opens.{left_out, question_deep, no_form_lem, plain_opens}
-use borrow.Author.Rules.{rules}
 use Rattle.reading_items.proofs.openings.behind_question.Goals as goal
-
-pub overflow_add-at : goal.overflow_add-at
-overflow_add-at c = search rules
-
-pub byte_at-b-requires : goal.byte_at-b-requires
-byte_at-b-requires c = search rules
-
-pub is_look-requires : goal.is_look-requires
-is_look-requires c = search rules
 
 pub returns-then-is_look : goal.returns-then-is_look
 returns-then-is_look c =
@@ -22,22 +16,13 @@ returns-then-depth-eq-DEPTH_LIMIT c =
     question_deep c.requires.0 c.requires.1 (sym (rw c.byte_at-b.ensures at
     c.is_look.ensures) ∙ c.if-is_look.false) c.if-depth-eq-DEPTH_LIMIT.true
 
-pub overflow_cast-t-9 : goal.overflow_cast-t-9
-overflow_cast-t-9 c = search rules
-
-pub overflow_add-result : goal.overflow_add-result
-overflow_add-result c = search rules
-
-pub returns-then-b : goal.returns-then-b
-returns-then-b c =
+pub returns-then-ne : goal.returns-then-ne
+returns-then-ne c =
     no_form_lem c.requires.0 c.requires.1 (sym (rw c.byte_at-b.ensures at
     c.is_look.ensures) ∙ c.if-is_look.false) c.if-depth-eq-DEPTH_LIMIT.false
-    (λ e. c.if-b.true (c.byte_at-b.ensures ∙ e))
-
-pub overflow_add-result-2 : goal.overflow_add-result-2
-overflow_add-result-2 c = search rules
+    (λ e. byte_other c.byte_at-b.result colon (not-true _ (sym c.if-ne.ensures)) (omega arith) (c.byte_at-b.ensures ∙ e))
 
 pub returns : goal.returns
 returns c =
     plain_opens c.requires.0 c.requires.1 c.if-depth-eq-DEPTH_LIMIT.false
-    (sym c.byte_at-b.ensures ∙ c.if-b.false)
+    (sym c.byte_at-b.ensures ∙ byte_is c.byte_at-b.result colon (not-false _ (sym c.if-ne.ensures)))

@@ -1,5 +1,4 @@
 use Rattle.reading_items.proofs.Putting.{no_group, group_putting, group_groups}
-use borrow.Author.Rules.{rules}
 use Rattle.reading_items.proofs.parts.grouped.Goals as goal
 
 pub returns-then-group-eq0 : goal.returns-then-group-eq0
@@ -8,12 +7,6 @@ returns-then-group-eq0 c = no_group c.if-group-eq0.true
 pub put-requires : goal.put-requires
 put-requires c =
     group_putting c.args.group c.if-group-eq0.false c.requires.0 c.requires.1
-
-pub overflow_add-result : goal.overflow_add-result
-overflow_add-result c = search rules
-
-pub shape_of-table : goal.shape_of-table
-shape_of-table c = search rules
 
 pub returns : goal.returns
 returns c = group_groups c.if-group-eq0.false

@@ -10,7 +10,5 @@ use Rattle.tidying_fitting.proofs.series.leftmost.Given as goal
 
 abbrev pub invariant-loop-left : goal.invariant-loop-left
 invariant-loop-left l =
-    (before : List ℕ) (r : Node) → Ends l.table l.top before r → Walk (wants l.want) (inner r) l.table l.end l.left before l.found
-
-abbrev pub decreases-loop-left : goal.decreases-loop-left
-decreases-loop-left l = l.left
+    (before : List ℕ) (r : Node) → Ends l.table l.top before r
+    → Walk (wants l.want) (inner r) l.table l.end l.left before l.found

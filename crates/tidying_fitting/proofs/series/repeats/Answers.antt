@@ -1,44 +1,40 @@
+use mathlib.Core.Path.{◌≡◌}
+use Prim.Native.Nat.{◌+◌, ◌-◌}
 use native.Mathlib.Omega.{arith}
-use Rattle.tidying_fitting.proofs.Walked.{last_asked, series_some, series_asked}
+use Rattle.tidying_fitting.proofs.Walked.{last_asked, series_asked}
 use Rattle.tidying_fitting.proofs.Walked.{repeat_first, repeat_more, repeat_found, repeat_over}
 use Rattle.tidying_fitting.proofs.series.repeats.Goals as goal
 
 pub start-end-requires : goal.start-end-requires
 start-end-requires c = last_asked c.requires
 
-pub overflow_sub-left : goal.overflow_sub-left
-overflow_sub-left c = omega (arith, series_some c.requires)
-
-pub loop-left-init : goal.loop-left-init
-loop-left-init c = λ before front q series. repeat_first front q series c.start-end.ensures
+pub loop-init : goal.loop-init
+loop-init c = λ before front q series. repeat_first front q series c.start-end.ensures
 
 pub same_part-requires : goal.same_part-requires
-same_part-requires c = let s = c.requires
-    in (
-      last_asked s,
-      last_asked (series_asked (c.loop-left.invariant s.before s.front s.last s.series)
-          c.loop-left-test.true),
-    )
+same_part-requires c =
+    let s = c.requires in
+    (last_asked s, last_asked (series_asked (c.loop.invariant s.before s.front s.last s.series) (omega arith)))
 
 pub returns-then-same_part : goal.returns-then-same_part
 returns-then-same_part c = record {
-  by = λ before front q series. repeat_found front q series
-      (c.loop-left.invariant before front q series) c.loop-left-test.true
-      c.same_part.ensures c.if-same_part.true;
+  by = λ before front q series.
+      repeat_found front q series (c.loop.invariant before front q series) (omega arith) c.same_part.ensures
+      c.if-same_part.true;
 }
 
-pub start-end-requires-in-loop-left : goal.start-end-requires-in-loop-left
-start-end-requires-in-loop-left c = last_asked
-    (series_asked (c.loop-left.invariant c.requires.before c.requires.front c.requires.last c.requires.series)
-    c.loop-left-test.true)
+pub start-end-requires-in-loop : goal.start-end-requires-in-loop
+start-end-requires-in-loop c =
+    let s = c.requires in
+    last_asked (series_asked (c.loop.invariant s.before s.front s.last s.series) (omega arith))
 
-pub loop-left-preserved : goal.loop-left-preserved
-loop-left-preserved c = λ before front q series. repeat_more front q series (c.loop-left.invariant before front q
-    series) c.loop-left-test.true c.same_part.ensures c.if-same_part.false
-    c.start-end-in-loop-left.ensures
+pub loop-preserved : goal.loop-preserved
+loop-preserved c = λ before front q series.
+    let left : c.args.items - (c.loop.counter + 1) ≡ c.args.items - c.loop.counter - 1 = omega arith in
+    rw left (repeat_more front q series (c.loop.invariant before front q series) (omega arith) c.same_part.ensures
+    c.if-same_part.false c.start-end-in-loop.ensures)
 
 pub returns : goal.returns
 returns c = record {
-  by = λ before front q series. repeat_over front q series (c.loop-left.invariant before front q series)
-      c.loop-left-test.false;
+  by = λ before front q series. repeat_over front q series (c.loop.invariant before front q series) (omega arith);
 }
