@@ -149,7 +149,8 @@ fn repeats(table: &[u32], top: usize, n: u32, code: &mut [u32], end: usize) -> u
     at
 }
 
-// A turn that can be left out: Fork, Begin, Reset, the part, End. It goes on at row `back`, or out to row `out`.
+// A turn that can be left out: Fork, Begin, Reset, the part, End. It goes on at row `back`, or out to row `out`. `lazy` is the
+// quantifier's own word, and chooses which of the two the Fork tries first.
 #[cycle(writing)]
 fn turn(
     table: &[u32],

@@ -92,7 +92,7 @@ pub fn copy_out(registers: &mut [i32], work: &[u32], from: usize, width: usize)
     }
 }
 
-// The answer to a call that begins at a row.
+// The answer to a call that begins at a row. The second engine has one of its own: other words are asked for, and another run.
 fn reply_from(
     code: &[u32],
     text: &[u8],

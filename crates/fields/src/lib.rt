@@ -48,7 +48,7 @@ struct Run {
     end: usize,
 }
 
-// A digit's value.
+// A digit's value. A function, so that what the subtraction asks is shown once.
 fn digit_value(b: u8) -> u64
     requires { 0x30 ≤ b }
     ensures { result ≡ b - 0x30 }

@@ -85,7 +85,7 @@ impl From<Result<Answer, Refusal>> for Ran {
     }
 }
 
-// The words that so many bytes lend, at most so many of them: a part word counts as not lent.
+// The words that so many bytes lend, at most so many of them: a part word counts as not lent. The specs have the same name.
 fn lent_words(bytes: usize, most: usize) -> usize
     ensures { result ≡ min (lent_words bytes) most }
 {

@@ -1,5 +1,5 @@
-// The intake program's lines: a pattern line is compiled, a text line searched, and what is written for it goes to a
-// lent buffer.
+// The intake program's lines, in arrays of fixed sizes (no heap): a pattern line is compiled, a text line searched, and what is
+// written for it goes to a lent buffer.
 #![tactic(auto)]
 
 ghost use Rattle.std.specs.Prelude.{◌+◌, ◌≤◌, length};

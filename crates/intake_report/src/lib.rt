@@ -28,7 +28,7 @@ fn put_text(out: &mut [u8], at: usize, text: &[u8]) -> usize
     end
 }
 
-// A number in decimal: the digits of its tenth, then the last.
+// A number in decimal: the digits of its tenth, then the last. Where a text is written back from its end, showing_spelling does it.
 fn put_digits(out: &mut [u8], at: usize, value: u64) -> usize
     requires { at + length (decimal value) ≤ length out.old }
     ensures { Wrote out.old out.new at (decimal value) result }

@@ -10,7 +10,7 @@ use meaning::limits::LF;
 use millkettle::{match_at, search, second_match, second_search};
 use std::io;
 
-// The byte at a place, or 0 behind the end.
+// The byte at a place, or 0 behind the end: a 0 is no letter and no digit of a question, as nothing is.
 pub fn byte_at(line: &[u8], at: usize) -> u8
     ensures { result ≡ get_or line.now at 0 }
 {

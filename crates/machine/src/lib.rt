@@ -42,7 +42,7 @@ pub const END: u32 = 9;
 
 pub const ASSERT: u32 = 10;
 
-// The assertions, by an Assert's operand: `^`, `$`, `\b`, `\B`.
+// The assertions, by an Assert's operand, a word of code too: `^`, `$`, `\b`, `\B`.
 pub const AT_START: u32 = 0;
 
 pub const AT_END: u32 = 1;

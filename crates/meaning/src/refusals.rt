@@ -85,6 +85,13 @@ impl Refusal {
             Refusal::BadGate => 29,
         }
     }
+
+    // The refusal about a place.
+    pub fn at(self, place: usize) -> Refused
+        ensures { result ≡ record { why = self; place = place } }
+    {
+        Refused { why: self, place }
+    }
 }
 
 // A refusal, and the place in the pattern that it is about.
@@ -99,7 +106,7 @@ impl From<Refusal> for Refused {
     ghost from_gives = { λ why refused. refused ≡ record { why = why; place = 0 } };
 
     fn from(why: Refusal) -> Refused {
-        Refused { why, place: 0 }
+        why.at(0)
     }
 }
 

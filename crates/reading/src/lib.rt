@@ -108,10 +108,7 @@ fn whole(pattern: &[u8], table: &mut [u32]) -> Result<Pattern, Refused>
         Ok(reached) => {
             if reached.at < pattern.len() {
                 clear(table, 0);
-                return Err(Refused {
-                    why: Refusal::Unmatched,
-                    place: reached.at,
-                });
+                return Err(Refusal::Unmatched.at(reached.at));
             }
             clear(table, RECORD_WORDS * reached.top);
             Ok(Pattern {
@@ -134,10 +131,7 @@ pub fn read(pattern: &[u8], table: &mut [u32]) -> Result<Pattern, Refused>
         return Err(Refusal::SmallTable.into());
     }
     if let Some(place) = first_high(pattern) {
-        return Err(Refused {
-            why: Refusal::HighByte,
-            place,
-        });
+        return Err(Refusal::HighByte.at(place));
     }
     whole(pattern, table)
 }

@@ -138,7 +138,7 @@ pub fn quantifier_at(s: &[u8], at: usize) -> Result<Option<Repeat>, Refused>
                 let Braces::Refused(why) = found else {
                     unreachable!()
                 };
-                return Err(Refused { why, place: at });
+                return Err(why.at(at));
             };
             Ok(Some(lazily(s, min, max, end)))
         }

@@ -27,7 +27,7 @@ pub fn named_set(k: usize) -> [u32; 8]
     sets::escape(k)
 }
 
-// The closing of a class, complemented or not.
+// The closing of a class, complemented or not: `negated` is whether `^` stood at its head.
 pub fn class_set(negated: bool, held: [u32; 8]) -> [u32; 8]
     ensures { result ≡ class_set negated held }
 {

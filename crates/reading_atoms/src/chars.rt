@@ -11,7 +11,7 @@ pub fn byte_at(s: &[u8], at: usize) -> Option<u8>
     s.get(at).copied()
 }
 
-// A digit.
+// A digit, as the specs' definition of that name says it.
 #[tactic(auto, unfolding(sets::specs::Sets::is_digit))]
 pub fn is_digit(b: u8) -> bool
     ensures { result ≡ is_digit b }

@@ -36,11 +36,8 @@ fn class_atom(s: &[u8], at: usize) -> Result<ClassAtom, Refused>
     match escape_at(true, s, at) {
         Ok(Escape::Byte(byte, end)) => Ok(ClassAtom::One(byte, end)),
         Ok(Escape::Named(k)) => Ok(ClassAtom::Several(k, at + 2)),
-        Ok(Escape::Assertion(_)) => Err(Refused {
-            why: Refusal::BadEscape,
-            place: at,
-        }),
-        Err(why) => Err(Refused { why, place: at }),
+        Ok(Escape::Assertion(_)) => Err(Refusal::BadEscape.at(at)),
+        Err(why) => Err(why.at(at)),
     }
 }
 
@@ -53,10 +50,7 @@ fn ranged(held: [u32; 8], from: usize, first: ClassAtom, last: ClassAtom) -> Res
             set: sets::union(held, sets::range(a, b)),
             end,
         }),
-        _ => Err(Refused {
-            why: Refusal::BadClass,
-            place: from,
-        }),
+        _ => Err(Refusal::BadClass.at(from)),
     }
 }
 
@@ -104,10 +98,7 @@ fn class_go(s: &[u8], negated: bool, from: usize) -> Result<Class, Refused>
         }
         read = class_item(s, read.set, read.end)?;
     }
-    Err(Refused {
-        why: Refusal::BadClass,
-        place: read.end,
-    })
+    Err(Refusal::BadClass.at(read.end))
 }
 
 // The class whose `[` stands at a place within the pattern.

@@ -92,6 +92,7 @@ fn refers_back(b: u8) -> bool
 }
 
 // Not listed: outside a class `\1` to `\9` and `\k` are left out; other letters, digits and `_` are wrong; the rest is itself.
+// `in_class` is where the escape stands, here and below.
 fn other_escape(in_class: bool, b: u8, end: usize) -> Result<Escape, Refusal>
     ensures { escape_of result ≡ other_escape in_class b end }
 {

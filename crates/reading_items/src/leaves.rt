@@ -69,10 +69,7 @@ fn escape_item(s: &[u8], table: &mut [u32], from: Reached) -> Result<Reached, Re
         Ok(Escape::Byte(b, end)) => set_item(s, table, Reached { at: end, ..from }, literal_set(b)),
         Ok(Escape::Named(k)) => set_item(s, table, behind, named_set(k)),
         Ok(Escape::Assertion(number)) => assertion(table, behind, number),
-        Err(why) => Err(Refused {
-            why,
-            place: from.at,
-        }),
+        Err(why) => Err(why.at(from.at)),
     }
 }
 
@@ -84,10 +81,7 @@ pub fn single(s: &[u8], table: &mut [u32], from: Reached) -> Result<Reached, Ref
 {
     let b = s[from.at];
     if is_quantifier(b) {
-        return Err(Refused {
-            why: Refusal::NoAtom,
-            place: from.at,
-        });
+        return Err(Refusal::NoAtom.at(from.at));
     }
     let behind = Reached {
         at: from.at + 1,
@@ -99,10 +93,7 @@ pub fn single(s: &[u8], table: &mut [u32], from: Reached) -> Result<Reached, Ref
         b'.' => set_item(s, table, behind, dot_set()),
         b'^' => assertion(table, behind, 0),
         b'$' => assertion(table, behind, 1),
-        b']' | b'}' => Err(Refused {
-            why: Refusal::Stray,
-            place: from.at,
-        }),
+        b']' | b'}' => Err(Refusal::Stray.at(from.at)),
         _ => set_item(s, table, behind, literal_set(b)),
     }
 }

@@ -35,22 +35,13 @@ fn behind_question(s: &[u8], at: usize, depth: u32, groups: u32) -> Result<Openi
 {
     let b = byte_at(s, at + 2);
     if is_look(b) {
-        return Err(Refused {
-            why: Refusal::LeftOut,
-            place: at,
-        });
+        return Err(Refusal::LeftOut.at(at));
     }
     if depth == DEPTH_LIMIT {
-        return Err(Refused {
-            why: Refusal::TooDeep,
-            place: at,
-        });
+        return Err(Refusal::TooDeep.at(at));
     }
     if b != Some(b':') {
-        return Err(Refused {
-            why: Refusal::NoAtom,
-            place: at + 1,
-        });
+        return Err(Refusal::NoAtom.at(at + 1));
     }
     Ok(Opening {
         from: at + 3,
@@ -69,16 +60,10 @@ pub fn opening_at(s: &[u8], at: usize, depth: u32, groups: u32) -> Result<Openin
         return behind_question(s, at, depth, groups);
     }
     if depth == DEPTH_LIMIT {
-        return Err(Refused {
-            why: Refusal::TooDeep,
-            place: at,
-        });
+        return Err(Refusal::TooDeep.at(at));
     }
     if GROUP_LIMIT <= groups {
-        return Err(Refused {
-            why: Refusal::ManyGroups,
-            place: at,
-        });
+        return Err(Refusal::ManyGroups.at(at));
     }
     Ok(Opening {
         from: at + 1,

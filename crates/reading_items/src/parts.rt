@@ -64,10 +64,7 @@ pub fn closed(s: &[u8], table: &mut [u32], from: Reached, group: u32) -> Result<
     ensures { Closes s.now from.at group from.groups from.top table.old table.new (got_of result) }
 {
     if byte_at(s, from.at) != Some(b')') {
-        return Err(Refused {
-            why: Refusal::Unmatched,
-            place: from.at,
-        });
+        return Err(Refusal::Unmatched.at(from.at));
     }
     let behind = Reached {
         at: from.at + 1,

@@ -1,4 +1,4 @@
-// The threads of a run, in the words of its workspace (WORKSPACE.md has the layout).
+// The threads of a run, in the words of its workspace (WORKSPACE.md has the layout), which is lent and of a fixed size: no heap.
 #![tactic(auto)]
 
 ghost use Rattle.std.specs.Prelude.{◌≡◌, ◌+◌, ◌-◌, ◌<◌, ◌≤◌, length, set};

@@ -1,5 +1,5 @@
 // A plain second engine: an ordinary backtracking matcher that remembers which row and flag were tried at which position, and
-// never tries them twice. docs/SECOND.md walks through it.
+// never tries them twice. docs/SECOND.md walks through it. Its marks and choices lie in lent words of a fixed number: no heap.
 #![tactic(auto)]
 
 ghost use Rattle.std.specs.Prelude.{◌≡◌, true, ◌+◌, ◌<◌, ◌≤◌, length};
@@ -232,7 +232,7 @@ fn turned_away(
     Ok(())
 }
 
-// The answer to a call that begins at a row.
+// The answer to a call that begins at a row: as the engine's, over this engine's words and run.
 fn reply_from(
     code: &[u32],
     text: &[u8],

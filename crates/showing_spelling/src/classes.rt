@@ -124,7 +124,7 @@ impl Room<'_> {
         self.put_escape(words);
     }
 
-    // With names or without.
+    // With names or without. `named` and `negated` say which text is written, here and below, as the specs' do.
     fn put_inside(&mut self, set: [u32; 8], named: bool)
         ensures { Wrote self.old (inside_text named set) self.new }
     {
@@ -163,7 +163,8 @@ impl Room<'_> {
         }
     }
 
-    // The shortest class, without names or with them.
+    // The shortest class, without names or with them. As `put_either` over other texts: a function over both would take two
+    // closures that write in the room, and say of each what it writes.
     fn put_best(&mut self, set: [u32; 8])
         ensures { Wrote self.old (best_text set) self.new }
     {

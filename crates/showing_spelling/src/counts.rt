@@ -54,7 +54,7 @@ impl Room<'_> {
         }
     }
 
-    // A quantifier: its counts, and then `?` if it is lazy.
+    // A quantifier: its counts, and then `?` if it is `lazy`, which is the quantifier's own word.
     pub fn put_quantifier(&mut self, least: u32, most: u32, lazy: bool)
         ensures { Wrote self.old (quantifier_text least most lazy) self.new }
     {

@@ -1,4 +1,5 @@
-// The table: the records of a pattern, 16 words each, a part after the parts inside it (docs/TABLE.md).
+// The table: the records of a pattern, 16 words each, a part after the parts inside it (docs/TABLE.md). It is lent, as code and
+// workspace are: there is no heap, and the sizes are the outline's, so that a tree of boxes or a vector has no place here.
 #![tactic(auto)]
 
 ghost use Rattle.std.specs.Prelude.{◌≡◌, ◌+◌, ◌-◌, ◌*◌, ◌<◌, ◌≤◌, min, max, length, take, drop, get_or};

@@ -10,7 +10,9 @@ returns-then-table-length c =
     rw c.into-then-table-length.ensures (too_small c.if-length-gt-PATTERN_LIMIT.false c.if-table-length.true)
 
 pub returns-in-Some : goal.returns-in-Some
-returns-in-Some c = too_high c.if-length-gt-PATTERN_LIMIT.false c.if-table-length.false c.in-Some.ensures
+returns-in-Some c =
+    rw c.at.ensures
+    (too_high c.if-length-gt-PATTERN_LIMIT.false c.if-table-length.false c.in-Some.ensures)
 
 pub whole-requires : goal.whole-requires
 whole-requires c = checked c.if-length-gt-PATTERN_LIMIT.false c.if-table-length.false c.in_default.ensures

@@ -10,8 +10,9 @@ alternatives-requires c = (fine_start c.requires c.type_inv.pattern, omega arith
 
 pub returns-then-reached-pattern : goal.returns-then-reached-pattern
 returns-then-reached-pattern c =
-    unmatched c.requires (fine_start c.requires c.type_inv.pattern) (met_part c.in-Ok.ensures refl) c.if-reached-pattern.true
-    c.alternatives.auto.table c.clear-then-reached-pattern.ensures
+    rw c.at.ensures
+    (unmatched c.requires (fine_start c.requires c.type_inv.pattern) (met_part c.in-Ok.ensures refl) c.if-reached-pattern.true
+    c.alternatives.auto.table c.clear-then-reached-pattern.ensures)
 
 pub overflow_mul-reached : goal.overflow_mul-reached
 overflow_mul-reached c = omega (arith, (met_part c.in-Ok.ensures refl).stands.room)

@@ -33,4 +33,4 @@ loop-read-preserved c =
     reading_more c.loop-read.invariant c.loop-read-test.true fine c.if-s-read-eq93.false c.in_ok-read.ensures refl
 
 pub returns : goal.returns
-returns c = reading_end c.loop-read.invariant c.loop-read-test.false
+returns c = rw c.at.ensures (reading_end c.loop-read.invariant c.loop-read-test.false)

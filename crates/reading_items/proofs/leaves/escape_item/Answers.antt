@@ -54,5 +54,6 @@ returns-in-Ok-Assertion c =
 
 pub returns-in-Err : goal.returns-in-Err
 returns-in-Err c =
-    let bad = sym c.in-Err.ensures in
-    meet_no (ap (escape_item c.args.s.now c.args.from.at c.args.from.groups) bad) (wrong_late false c.args.s.now c.args.from.at bad)
+    rw c.at.ensures
+    (let bad = sym c.in-Err.ensures in
+    meet_no (ap (escape_item c.args.s.now c.args.from.at c.args.from.groups) bad) (wrong_late false c.args.s.now c.args.from.at bad))

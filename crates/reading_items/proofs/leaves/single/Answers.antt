@@ -15,8 +15,9 @@ use Rattle.reading_items.proofs.leaves.single.Goals as goal
 
 pub returns-then-is_quantifier : goal.returns-then-is_quantifier
 returns-then-is_quantifier c =
-    meet_no (no_atom_lem c.args.s.now c.args.from.at c.args.from.groups c.requires.1 _ refl
-    (sym c.is_quantifier.ensures ∙ c.if-is_quantifier.true)) (omega arith)
+    rw c.at.ensures
+    (meet_no (no_atom_lem c.args.s.now c.args.from.at c.args.from.groups c.requires.1 _ refl
+    (sym c.is_quantifier.ensures ∙ c.if-is_quantifier.true)) (omega arith))
 
 pub set_item-requires : goal.set_item-requires
 set_item-requires c =
@@ -58,11 +59,12 @@ returns-in-36 c =
 
 pub returns-in-93 : goal.returns-in-93
 returns-in-93 c =
-    ⊎_elim
+    rw c.at-in-93.ensures
+    (⊎_elim
     (λ e. meet_no (stray_item c.args.s.now c.args.from.at c.args.from.groups c.requires.1 close_bracket refl refl refl refl refl refl refl refl e)
     (omega arith))
     (λ e. meet_no (stray_item c.args.s.now c.args.from.at c.args.from.groups c.requires.1 close_brace refl refl refl refl refl refl refl refl e)
-    (omega arith)) c.in-93.is
+    (omega arith)) c.in-93.is)
 
 pub returns-in_default : goal.returns-in_default
 returns-in_default c =

@@ -8,7 +8,8 @@ use Rattle.reading_items.proofs.parts.closed.Goals as goal
 
 pub returns-then-ne : goal.returns-then-ne
 returns-then-ne c =
-    unclosed (λ e. byte_other c.byte_at.result close_paren (not-true _ (sym c.if-ne.ensures)) (omega arith) (c.byte_at.ensures ∙ e))
+    rw c.at.ensures
+    (unclosed (λ e. byte_other c.byte_at.result close_paren (not-true _ (sym c.if-ne.ensures)) (omega arith) (c.byte_at.ensures ∙ e)))
 
 pub quantified-requires : goal.quantified-requires
 quantified-requires c =
