@@ -29,7 +29,7 @@ pub rows_then : {code c₁ c₂ : List ℕ} {start middle end size₁ size₂ : 
 rows_then front back room w₂ w₁ = wrote_as (then room.long w₂ w₁) refl (sym (words_append front back))
 
 -- One more of n things of a size.
-one_more : (n size : ℕ) → suc n * size ≡ size + n * size
+pub one_more : (n size : ℕ) → suc n * size ≡ size + n * size
 one_more n size = rw suc-mul (omega arith)
 
 -- A loop that writes a part again and again, from the last time back: so often, of n times, it is written.
@@ -83,7 +83,7 @@ abbrev pub total : (Node → ℕ) → List Node → ℕ
 total need [] = 0
 total need (r ∷ l) = need r + total need l
 
-total_last : (need : Node → ℕ) (l : List Node) (r : Node) → total need (l ++ (r ∷ [])) ≡ total need l + need r
+pub total_last : (need : Node → ℕ) (l : List Node) (r : Node) → total need (l ++ (r ∷ [])) ≡ total need l + need r
 total_last need [] r = omega arith
 total_last need (q ∷ l) r = omega (arith, total_last need l r)
 

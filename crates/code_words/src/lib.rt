@@ -26,17 +26,21 @@ pub fn consuming(set: [u32; SET_WORDS]) -> [u32; ROW_WORDS]
     ensures { result ≡ consume_kind ∷ 0 ∷ 0 ∷ 0 ∷ set }
 {
     let mut row = plain(CONSUME, 0, 0);
-    row[machine::SET..].copy_from_slice(&set);
+    for i in 0..SET_WORDS {
+        row[machine::SET + i] = set[i];
+    }
     row
 }
 
-// Writes the words of a row from word `start` on.
+// Writes the words of a row from word `start` on. By a loop, as above: with `copy_from_slice` compiling took 1.6 times as long.
 pub fn place(code: &mut [u32], start: usize, row: [u32; ROW_WORDS])
     requires { start + row_words ≤ length code.old }
     ensures { code.new ≡ take start code.old ++
         (row ++ drop (start + row_words) code.old) }
 {
-    code[start..start + ROW_WORDS].copy_from_slice(&row);
+    for i in 0..ROW_WORDS {
+        code[start + i] = row[i];
+    }
 }
 
 // Writes a row before row `end`.

@@ -42,11 +42,15 @@ fn many_rows(table: &[u32], records: usize) -> bool
 fn read_small(pattern: &[u8], table: &mut [u32]) -> Result<Pattern, Refused>
     ensures { Small pattern.now table.old table.new result }
 {
-    let read = reading::read(pattern, table)?;
-    if many_rows(table, read.records) {
-        return Err(without_program(table, Refusal::ManyRows));
+    match reading::read(pattern, table) {
+        Err(refused) => Err(refused),
+        Ok(read) => {
+            if many_rows(table, read.records) {
+                return Err(without_program(table, Refusal::ManyRows));
+            }
+            Ok(read)
+        }
     }
-    Ok(read)
 }
 
 // The program of the pattern that a table holds: 16 is by the rows of that one.

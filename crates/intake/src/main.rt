@@ -55,7 +55,7 @@ fn work_through(
     };
     let mut from = 0;
     while from < piece.len() && !now.failed {
-        let fed = intake_feeding::feed(now.phase, now.kept, &piece[from..], space, out);
+        let fed = space.feed(now.phase, now.kept, &piece[from..], out);
         now = Standing {
             phase: fed.phase,
             kept: fed.kept,
@@ -80,7 +80,7 @@ fn turn(
     if piece.len() > 0 {
         return work_through(rt, standing, piece, space, out);
     }
-    let fed = intake_feeding::finish(standing.phase, standing.kept, space, out);
+    let fed = space.finish(standing.phase, standing.kept, out);
     Standing {
         phase: Phase::Over,
         kept: 0,

@@ -7,7 +7,7 @@ ghost use Rattle.intake_feeding.specs.Work.{kept_limit, last_bytes};
 ghost use Rattle.intake_feeding.specs.Fed.{work_of, Keeps, Steps, Feeds, Untouched};
 
 use intake_lines::{Buffers, LINE_LIMIT, LINE_ROOM, Phase};
-use meaning::limits::LF;
+use meaning::limits::{CODE_SIZE, LF, TABLE_SIZE, WORKSPACE_SIZE};
 
 // A line is kept up to one byte more than its limit, which shows that it is too long.
 pub const KEPT_LIMIT: usize = LINE_LIMIT + 1;
@@ -44,20 +44,28 @@ fn keep(line: &mut [u8], kept: usize, byte: u8) -> usize
 }
 
 // The next byte of a piece. It asks that no more bytes are kept than there may be, and for room for a line.
-fn step(fed: Fed, byte: u8, space: &mut Space, out: &mut [u8]) -> Fed
+fn step(
+    fed: Fed,
+    byte: u8,
+    line: &mut [u8; KEPT_LIMIT],
+    table: &mut [u32; TABLE_SIZE],
+    code: &mut [u32; CODE_SIZE],
+    workspace: &mut [u32; WORKSPACE_SIZE],
+    out: &mut [u8],
+) -> Fed
     requires { (fed.kept ≤ kept_limit) × (fed.end + line_room ≤ length out.old) }
-    ensures { Steps fed byte space.old.line space.new.line space.old.buffers.code
-        space.new.buffers.code out.old out.new result }
+    ensures { Steps fed byte line.old line.new code.old code.new
+        out.old out.new result }
 {
     if byte != LF {
         return Fed {
-            kept: keep(&mut space.line, fed.kept, byte),
+            kept: keep(line, fed.kept, byte),
             full: false,
             ..fed
         };
     }
-    let line = &space.line[..fed.kept];
-    let ended = intake_lines::end_line(fed.phase, line, &mut space.buffers, out, fed.end);
+    let line = &line[..fed.kept];
+    let ended = intake_lines::end_line(fed.phase, line, table, code, workspace, out, fed.end);
     Fed {
         phase: ended.phase,
         kept: 0,
@@ -68,15 +76,24 @@ fn step(fed: Fed, byte: u8, space: &mut Space, out: &mut [u8]) -> Fed
 }
 
 // A piece of the input, as far as there is room for a line. Where no byte is taken nothing changes.
-pub fn feed(phase: Phase, kept: usize, piece: &[u8], space: &mut Space, out: &mut [u8]) -> Fed
-    ensures feeds { Feeds phase kept piece.now space.old.line space.new.line space.old.buffers.code
-        space.new.buffers.code out.old out.new result }
-    ensures untouched { result.taken ≡ 0 → Untouched space.old.line space.new.line space.old.buffers.table
-        space.new.buffers.table space.old.buffers.workspace space.new.buffers.workspace }
+pub fn feed(
+    phase: Phase,
+    kept: usize,
+    piece: &[u8],
+    line: &mut [u8; KEPT_LIMIT],
+    table: &mut [u32; TABLE_SIZE],
+    code: &mut [u32; CODE_SIZE],
+    workspace: &mut [u32; WORKSPACE_SIZE],
+    out: &mut [u8],
+) -> Fed
+    ensures feeds { Feeds phase kept piece.now line.old line.new code.old
+        code.new out.old out.new result }
+    ensures untouched { result.taken ≡ 0 → Untouched line.old line.new table.old table.new
+        workspace.old workspace.new }
 {
     let mut fed = Fed {
         phase,
-        kept: kept.min(space.line.len()),
+        kept: kept.min(line.len()),
         taken: 0,
         end: 0,
         full: false,
@@ -87,7 +104,7 @@ pub fn feed(phase: Phase, kept: usize, piece: &[u8], space: &mut Space, out: &mu
         }
         fed = Fed {
             taken: fed.taken + 1,
-            ..step(fed, *byte, space, out)
+            ..step(fed, *byte, line, table, code, workspace, out)
         };
     }
     fed.full = fed.taken < piece.len();
@@ -95,14 +112,56 @@ pub fn feed(phase: Phase, kept: usize, piece: &[u8], space: &mut Space, out: &mu
 }
 
 // The input's end: a last line without LF counts unless it is empty, as if LF ended it.
-pub fn finish(phase: Phase, kept: usize, space: &mut Space, out: &mut [u8]) -> Fed
-    ensures feeds { Feeds phase kept (last_bytes (work_of phase kept space.old.line space.old.buffers.code))
-        space.old.line space.new.line space.old.buffers.code space.new.buffers.code out.old out.new result }
-    ensures untouched { result.taken ≡ 0 → Untouched space.old.line space.new.line space.old.buffers.table
-        space.new.buffers.table space.old.buffers.workspace space.new.buffers.workspace }
+pub fn finish(
+    phase: Phase,
+    kept: usize,
+    line: &mut [u8; KEPT_LIMIT],
+    table: &mut [u32; TABLE_SIZE],
+    code: &mut [u32; CODE_SIZE],
+    workspace: &mut [u32; WORKSPACE_SIZE],
+    out: &mut [u8],
+) -> Fed
+    ensures feeds { Feeds phase kept (last_bytes (work_of phase kept line.old code.old))
+        line.old line.new code.old code.new out.old out.new result }
+    ensures untouched { result.taken ≡ 0 → Untouched line.old line.new table.old table.new
+        workspace.old workspace.new }
 {
     if kept == 0 {
-        return feed(phase, kept, b"", space, out);
+        return feed(phase, kept, b"", line, table, code, workspace, out);
     }
-    feed(phase, kept, b"\n", space, out)
+    feed(phase, kept, b"\n", line, table, code, workspace, out)
+}
+
+impl Space {
+    // A piece of the input, in these arrays.
+    pub fn feed(&mut self, phase: Phase, kept: usize, piece: &[u8], out: &mut [u8]) -> Fed
+        ensures feeds { Feeds phase kept piece.now self.old.line self.new.line self.old.buffers.code
+            self.new.buffers.code out.old out.new result }
+        ensures untouched { result.taken ≡ 0 → Untouched self.old.line self.new.line self.old.buffers.table
+            self.new.buffers.table self.old.buffers.workspace self.new.buffers.workspace }
+    {
+        let line = &mut self.line;
+        let Buffers {
+            table,
+            code,
+            workspace,
+        } = &mut self.buffers;
+        feed(phase, kept, piece, line, table, code, workspace, out)
+    }
+
+    // The input's end, in these arrays.
+    pub fn finish(&mut self, phase: Phase, kept: usize, out: &mut [u8]) -> Fed
+        ensures feeds { Feeds phase kept (last_bytes (work_of phase kept self.old.line self.old.buffers.code))
+            self.old.line self.new.line self.old.buffers.code self.new.buffers.code out.old out.new result }
+        ensures untouched { result.taken ≡ 0 → Untouched self.old.line self.new.line self.old.buffers.table
+            self.new.buffers.table self.old.buffers.workspace self.new.buffers.workspace }
+    {
+        let line = &mut self.line;
+        let Buffers {
+            table,
+            code,
+            workspace,
+        } = &mut self.buffers;
+        finish(phase, kept, line, table, code, workspace, out)
+    }
 }

@@ -99,23 +99,41 @@ fn put_pattern_line(
 pub fn end_line(
     phase: Phase,
     line: &[u8],
-    buffers: &mut Buffers,
+    table: &mut [u32; TABLE_SIZE],
+    code: &mut [u32; CODE_SIZE],
+    workspace: &mut [u32; WORKSPACE_SIZE],
     out: &mut [u8],
     at: usize,
 ) -> Ended
     requires { at + line_room ≤ length out.old }
-    ensures { Ends phase line.now buffers.old.code buffers.new.code out.old
+    ensures { Ends phase line.now code.old code.new out.old
         out.new at result }
 {
     match phase {
-        Phase::Pattern => put_pattern_line(line, &mut buffers.table, &mut buffers.code, out, at),
+        Phase::Pattern => put_pattern_line(line, table, code, out, at),
         Phase::Texts => Ended {
             phase: Phase::Texts,
-            end: put_text_line(&buffers.code, line, &mut buffers.workspace, out, at),
+            end: put_text_line(code, line, workspace, out, at),
         },
         Phase::Over => Ended {
             phase: Phase::Over,
             end: at,
         },
+    }
+}
+
+impl Buffers {
+    // The end of a line, in these arrays.
+    pub fn end_line(&mut self, phase: Phase, line: &[u8], out: &mut [u8], at: usize) -> Ended
+        requires { at + line_room ≤ length out.old }
+        ensures { Ends phase line.now self.old.code self.new.code out.old
+            out.new at result }
+    {
+        let Buffers {
+            table,
+            code,
+            workspace,
+        } = self;
+        end_line(phase, line, table, code, workspace, out, at)
     }
 }

@@ -2,11 +2,11 @@
 // the words of the list, `compile PATTERN` and `tidied PATTERN`, and `rows` with rows by hand, `every` with rows of which every
 // match is asked for, or `unused` with a 1 in each word that they do not use; readings.rt has those on fields
 // and gates. Behind `plain` stands a match, a search or rows for the second engine.
-ghost use Rattle.std.specs.Prelude.{◌≡◌, ◌-◌, get_or};
+ghost use Rattle.std.specs.Prelude.{◌≡◌, ◌-◌, ◌<◌, ◌≤◌, length, get_or, IfOk};
 
 use crate::answers::{ENGINE_WORDS, SECOND_WORDS, code_of, compiled, found, list, run, tidied};
 use crate::{made, readings};
-use meaning::limits::LF;
+use intake_report::find_lf;
 use millkettle::{match_at, search, second_match, second_search};
 use std::io;
 
@@ -135,11 +135,25 @@ fn ask(rt: &impl Print, question: &[u8], text: &[u8]) -> io::Result<()> {
     }
 }
 
-// All questions of the input, each a line with a line behind it.
+// The question at a place, a line with a line behind it, and the place of the next one.
+fn ask_at(rt: &impl Print, input: &[u8], at: usize) -> io::Result<usize>
+    requires { at < length input.now }
+    ensures { IfOk result (λ next. (at < next) × (next ≤ length input.now)) }
+{
+    let lf = find_lf(input, at, input.len());
+    if lf == input.len() {
+        return Ok(lf);
+    }
+    let stop = find_lf(input, lf + 1, input.len());
+    ask(rt, &input[at..lf], &input[lf + 1..stop])?;
+    Ok(input.len().min(stop + 1))
+}
+
+// All questions of the input.
 pub fn ask_all(rt: &impl Print, input: &[u8]) -> io::Result<()> {
-    let mut lines = input.split(|b| *b == LF);
-    while let (Some(question), Some(text)) = (lines.next(), lines.next()) {
-        ask(rt, question, text)?;
+    let mut at = 0;
+    while at < input.len() {
+        at = ask_at(rt, input, at)?;
     }
     Ok(())
 }

@@ -134,7 +134,8 @@ pub fn find(
         workspace.new (finding_view result) }
 {
     compiler::compile(pattern, table, code)?;
-    Ok(engine::search(code, text, start, registers, workspace)?)
+    let answer = engine::search(code, text, start, registers, workspace)?;
+    Ok(answer)
 }
 
 // A captured span, two registers as they stand, read as a number: an optional minus, one or more digits, optionally a point and

@@ -1,6 +1,6 @@
 -- The records that the readers put. Assumes nothing.
 use mathlib.Core.Path.{◌≡◌, refl, sym}
-use mathlib.Core.Bool.{Bool, true, false, cond}
+use mathlib.Core.Bool.{Bool, true, false, cond, ◌||◌, true≢false}
 use mathlib.Core.Option.{Option, none, some}
 use mathlib.Core.List.{List, [], ◌∷◌, ◌++◌, append-nil}
 use Prim.Native.Nat.{ℕ, zero, suc, ◌+◌, ◌-◌, ◌*◌, ◌≤◌}
@@ -20,6 +20,7 @@ use Rattle.std.specs.Prelude.{None, Some, Ok, Err}
 use Rattle.meaning.specs.Refusing.{number_of}
 use Rattle.meaning.specs.declared.refusals.Refused.{Refused}
 use Rattle.reading_atoms.specs.Answers.{QuantifierIs}
+use Rattle.reading_atoms.specs.Chars.{byte_at, star, plus, question, open_brace, is_quantifier}
 use Rattle.reading_atoms.specs.Braces as braces
 use Rattle.reading_atoms.specs.Braces.{quantifier_at}
 use Rattle.reading_atoms.specs.Laws.{quantifier_repeated}
@@ -127,12 +128,32 @@ maximum_is min max h = go (eqb max no_maximum) refl
     go true e = sym (eqb-true max no_maximum e)
     go false e = omega arith
 
+-- The last of five, where none of the four tests before it holds.
+last_of_five : (a b c d e : braces.Quantifier) (k l m n : Bool) → (k || l || m || n) ≡ false
+    → cond k a (cond l b (cond m c (cond n d e))) ≡ e
+last_of_five a b c d e false false false false h = refl
+last_of_five a b c d e false false false true h = absurd (true≢false h)
+last_of_five a b c d e false false true n h = absurd (true≢false h)
+last_of_five a b c d e false true m n h = absurd (true≢false h)
+last_of_five a b c d e true l m n h = absurd (true≢false h)
+
 module _ (s : List ℕ) (at : ℕ) where
+  -- Where no quantifier begins there is none.
+  no_quantifier : is_quantifier (byte_at s at) ≡ false → quantifier_at s at ≡ braces.Quantifier.once
+  unfolding quantifier_at
+  no_quantifier h =
+      let b : ℕ = byte_at s at in
+      last_of_five _ _ _ _ _ (eqb b star) (eqb b plus) (eqb b question) (eqb b open_brace) h
+
   pub once_quantifies : {g top : ℕ} {table : List ℕ} → QuantifierIs (Ok None) (quantifier_at s at)
       → Quantifies s at g top table table (GotPart at top g)
   once_quantifies {top = top} is = record {
     by = λ before r ends. rw (sym is.same) (record { by = (top, refl, ends.stands) });
   }
+
+  pub none_quantifies : {g top : ℕ} {table : List ℕ} → is_quantifier (byte_at s at) ≡ false
+      → Quantifies s at g top table table (GotPart at top g)
+  none_quantifies h = once_quantifies (record { same = sym (no_quantifier h); ordered = tt })
 
   pub refused_quantifies : {g top : ℕ} {table : List ℕ} {e : Refused} → QuantifierIs (Err e) (quantifier_at s at)
       → Quantifies s at g top table table (GotRefused (number_of e.why) e.place)

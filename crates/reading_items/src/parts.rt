@@ -4,6 +4,7 @@ ghost use Rattle.table.specs.Stands.{SomePart};
 ghost use Rattle.reading_items.specs.Answers.{got_of};
 ghost use Rattle.reading_items.specs.Meets.{Behind, Room, Quantifies, Closes, Groups};
 
+use crate::words::is_quantifier;
 use meaning::refusals::{Refusal, Refused};
 use reading_atoms::{Repeat, byte_at, quantifier_at};
 use table::{GROUP, QUANTIFIER, put};
@@ -17,8 +18,23 @@ pub struct Reached {
     pub groups: u32,
 }
 
-// The part below the top with the quantifier that stands at the place, if there is one.
+// The part below the top with the quantifier that stands at the place, if there is one. Most parts have none, and make no call.
+#[inline(always)]
 pub fn quantified(s: &[u8], table: &mut [u32], from: Reached) -> Result<Reached, Refused>
+    requires { Behind s.now table.old from.at from.top × SomePart table.old from.top }
+    ensures { Quantifies s.now from.at from.groups from.top table.old table.new (got_of result) }
+{
+    let Some(b) = byte_at(s, from.at) else {
+        return Ok(from);
+    };
+    if !is_quantifier(b) {
+        return Ok(from);
+    }
+    repeated(s, table, from)
+}
+
+// The same by the quantifier's reader: a part that has a quantifier, or is refused for one.
+fn repeated(s: &[u8], table: &mut [u32], from: Reached) -> Result<Reached, Refused>
     requires { Behind s.now table.old from.at from.top × SomePart table.old from.top }
     ensures { Quantifies s.now from.at from.groups from.top table.old table.new (got_of result) }
 {

@@ -157,6 +157,8 @@ fn asserted(key: usize, assertion: u32, before: u32, after: u32) -> Move
 }
 
 // What the row of a key does between two bytes. Each kind has an arm; the last is never reached: the check lists the kinds.
+// Both engines' inner loops call it, and where it stays a call of its own a run executes a third more instructions.
+#[inline(always)]
 #[tactic(auto, using(crate::specs::Ready::row_is))]
 pub fn move_of(code: &[u32], before: u32, after: u32, key: usize) -> Move
     requires { Ready code.now × (key < keys_of (rows_said code.now)) }

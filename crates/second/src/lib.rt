@@ -214,7 +214,7 @@ fn run(
     trial
 }
 
-// Whether a run is turned away, and why: the first ground in order that holds.
+// Whether a run is turned away, and why: the first ground in order that holds. The tests are this engine's own.
 fn turned_away(
     code: &[u32],
     text: &[u8],
@@ -224,9 +224,21 @@ fn turned_away(
 ) -> Result<(), Refusal>
     ensures { refused_by result ≡ second_refusal code.now (lend text.now start registers workspace) }
 {
-    let sizes = engine::sizes_of(code, text, start, registers, SECOND_LIMIT)?;
-    let row = 4 * sizes.groups + 10;
-    if workspace < sizes.rows * row * (text.len() + 1) + 2 * (sizes.groups + 1) {
+    if !code_check::check(code) {
+        return Err(Refusal::CodeFails);
+    }
+    if text.len() > SECOND_LIMIT {
+        return Err(Refusal::LongText);
+    }
+    if start > text.len() {
+        return Err(Refusal::StartBeyond);
+    }
+    let n = code[ROWS] as usize;
+    let g = code[GROUPS] as usize;
+    if registers < 2 * (g + 1) {
+        return Err(Refusal::FewRegisters);
+    }
+    if workspace < n * (4 * g + 10) * (text.len() + 1) + 2 * (g + 1) {
         return Err(Refusal::SmallWorkspace);
     }
     Ok(())

@@ -86,9 +86,10 @@ pub fn last_words(table: &[u32], top: usize) -> [u32; SET_WORDS]
     requires { (0 < top) × (record_words * top ≤ length table.now) }
     ensures { result ≡ take set_words (drop (record_words * (top - 1) + set_word) table.now) }
 {
-    let from = RECORD_WORDS * (top - 1) + SET;
     let mut last = [0u32; SET_WORDS];
-    last.copy_from_slice(&table[from..from + SET_WORDS]);
+    for i in 0..SET_WORDS {
+        last[i] = word(table, top, SET + i);
+    }
     last
 }
 
@@ -219,12 +220,14 @@ pub fn derive(
     }
 }
 
-// The words of a record into the table from an index on.
+// The words of a record into the table from an index on. By a loop: `copy_from_slice` tests for an overlap, and was slower.
 pub fn copy(table: &mut [u32], base: usize, words: &[u32; RECORD_WORDS])
     requires { (base + record_words ≤ length table.old) × (length words.now ≡ record_words) }
     ensures { table.new ≡ paste table.old base words.now record_words }
 {
-    table[base..base + RECORD_WORDS].copy_from_slice(words);
+    for k in 0..RECORD_WORDS {
+        table[base + k] = words[k];
+    }
 }
 
 // The whole record at `top`, on the records of its items. Its last eight words are a byte set; or a quantifier's minimum,

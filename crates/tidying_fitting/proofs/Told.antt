@@ -6,7 +6,7 @@ use Prim.Native.Nat.{ℕ, ◌+◌, ◌-◌, ◌*◌, ◌≤◌, ◌<◌}
 use native.Mathlib.Omega.{arith}
 use lib.ListN.{length, take, drop}
 use lib.Dec.{eqb}
-use borrow.Author.Tests.{eqb-true}
+use borrow.Author.Tests.{eqb-true, ne_eqb}
 use Rattle.meaning.specs.Tests.{and_true}
 use Rattle.meaning.specs.Node.{Node, Node.empty, Node.bset, Node.assert, Node.group, Node.seq, Node.alt, Node.many, hi, Proper}
 use Rattle.table.specs.Table.{quantifier_kind}
@@ -17,8 +17,11 @@ use Rattle.table.specs.Laws.{inner, kind_of, last_of}
 use Rattle.table.specs.Roots.{root_set, root_word, last_ends, inside}
 use Rattle.table.specs.Stands.{Ends, SomePart}
 use Rattle.tidying_fitting.specs.Parts.{Tells, room}
+use Rattle.meaning.specs.Limits.{no_maximum}
+use Rattle.tidying_laws.specs.Laws.{t10}
+use Rattle.tidying_fitting.specs.Fitting.{fits}
 use Rattle.tidying_fitting.specs.Words.{flag_of, own_of, start_of, on_part, ranged, nested_in, is_nested}
-use Rattle.tidying_fitting.specs.Words.{lazy_words, absorbs, both_greedy}
+use Rattle.tidying_fitting.specs.Words.{lazy_words, lazy_flags, both_zero, absorbs, t10_words}
 use Rattle.tidying_fitting.specs.declared.Record.{Record}
 
 module _ {table : List ℕ} {top : ℕ} where
@@ -30,7 +33,7 @@ module _ {table : List ℕ} {top : ℕ} where
   pub own_told : {k n i h l m z : ℕ} → k ≡ word_of table top kind_word → n ≡ word_of table top records_word
       → i ≡ word_of table top items_word → h ≡ word_of table top highest_word
       → l ≡ word_of table top least_word → m ≡ word_of table top most_word → z ≡ word_of table top lazy_word
-      → Tells (record { kind = k; records = n; items = i; highest = h; least = l; most = m; lazy = flag_of z }) table top own_of
+      → Tells (record { kind = k; records = n; items = i; highest = h; least = l; most = m; lazy = z }) table top own_of
   own_told {k} {n} {i} {h} {l} {m} {z} e₀ e₂ e₃ e₆ e₈ e₉ e₁₀ = record {
     by = λ before r p.
         let read = root_word p in
@@ -147,30 +150,30 @@ module _ {table : List ℕ} {top : ℕ} where
         (λ q. ap (λ b. b && (ranged (own_of q) 0 most && eqb (hi r) 0)) no);
   }
 
-  -- Where the outer of two quantifiers is greedy, it absorbs the inner one; and where it is lazy, not both are greedy.
-  pub greedy_outer : Quantified table top → {o : Record} → Tells o table top own_of → {b : Bool} → b ≡ not o.lazy → b ≡ true
-      → Tells b table top (lazy_words absorbs)
+  -- Where the outer of two quantifiers is greedy, it absorbs the inner one.
+  pub greedy_outer : Quantified table top → {o : Record} → Tells o table top own_of → {b : Bool} → b ≡ not (flag_of o.lazy)
+      → b ≡ true → Tells b table top (lazy_flags absorbs)
   greedy_outer h t d e = record {
     by = λ before r p.
         let q = quantifier p (h.by before r p) in
-        e ∙ sym (q.on (λ r q. absorbs (own_of r).lazy (own_of q).lazy)
-        ∙ ap (λ b. b || (own_of q.part).lazy) (sym (ap (λ d. not d.lazy) (t.by before r p)) ∙ sym d ∙ e));
-  }
-
-  pub lazy_outer : {o : Record} → Tells o table top own_of → not o.lazy ≡ false → Tells false table top (lazy_words both_greedy)
-  lazy_outer t e = record {
-    by = λ before r p.
-        never (λ r q. both_greedy (own_of r).lazy (own_of q).lazy) r
-        (λ q. ap (λ b. b && not (own_of q).lazy) (sym (ap (λ d. not d.lazy) (t.by before r p)) ∙ e));
+        e ∙ sym (q.on (λ r q. absorbs (flag_of (own_of r).lazy) (flag_of (own_of q).lazy))
+        ∙ ap (λ b. b || flag_of (own_of q.part).lazy) (sym (ap (λ d. not (flag_of d.lazy)) (t.by before r p)) ∙ sym d ∙ e));
   }
 
   -- A law that asks one test and then another.
   module _ (law first second : Node → Bool) (h : (r : Node) → Proper r → law r ≡ (first r && second r)) {b : Bool}
       (t : Tells b table top first) where
-    pub first_fails : b ≡ false → Tells b table top law
-    first_fails e = record { by = λ before r p. e ∙ sym (h r p.proper ∙ ap (λ d. d && second r) (sym (t.by before r p) ∙ e)) }
+    pub first_fails : b ≡ false → Tells false table top law
+    first_fails e = record { by = λ before r p. sym (h r p.proper ∙ ap (λ d. d && second r) (sym (t.by before r p) ∙ e)) }
 
     pub first_passes : b ≡ true → {d : Bool} → Tells d table top second → Tells d table top law
     first_passes e u = record {
       by = λ before r p. u.by before r p ∙ sym (h r p.proper ∙ ap (λ d. d && second r) (sym (t.by before r p) ∙ e));
     }
+
+-- A quantifier at 1 or more of one at 0 or more, of which the outer is lazy: T10 takes only two greedy ones.
+pub lazy_outer : {table : List ℕ} {top : ℕ} {n : Bool} {o i : Record} → Tells n table top (is_nested 1 no_maximum) → n ≡ true
+    → Tells o table top own_of → Tells i table (top - 1) own_of → (o.lazy ≡ 0 → ⊥) → Tells false table top (fits t10)
+lazy_outer {o = o} {i = i} n e t u h = first_passes (fits t10) (is_nested 1 no_maximum) (lazy_words both_zero) t10_words n e
+    (on_quantifier (λ o i. both_zero o.lazy i.lazy) (quantified_passed (λ r q. nested_in 1 no_maximum (own_of r) (own_of q)) n e)
+    t u (rw (ne_eqb _ _ h)))

@@ -30,7 +30,7 @@ own_of r = record {
   highest = hi r;
   least = get_or (last_of r) 0 0;
   most = get_or (last_of r) 1 0;
-  lazy = flag_of (get_or (last_of r) 2 0);
+  lazy = get_or (last_of r) 2 0;
 }
 
 -- The record number at which a part starts that ends at `top`.
@@ -194,34 +194,60 @@ one_more n none lazy q h = refl
 one_more zero (some e) lazy q h = let same : 0 + e ≡ e = omega arith in rw same
 one_more (suc n) (some e) lazy q h = rw (ne_eqb (suc n) 0 (λ e. omega arith))
 
--- The laziness of a quantifier, by its word.
-abbrev pub absorbs : Bool → Bool → Bool
-absorbs outer inner = not outer || inner
-
-absorbed_word : (inner outer : Bool) → absorbed inner outer ≡ absorbs (flag_of (bit_of outer)) (flag_of (bit_of inner))
+-- The laziness of a quantifier, as a word.
+absorbed_word : (inner outer : Bool) → absorbed inner outer ≡ leb (bit_of outer) (bit_of inner)
 absorbed_word false false = refl
 absorbed_word false true = refl
 absorbed_word true false = refl
 absorbed_word true true = refl
 
-same_word : (outer inner : Bool) → beq outer inner ≡ beq (flag_of (bit_of outer)) (flag_of (bit_of inner))
+same_word : (outer inner : Bool) → beq outer inner ≡ eqb (bit_of outer) (bit_of inner)
 same_word false false = refl
 same_word false true = refl
 same_word true false = refl
 same_word true true = refl
 
-abbrev pub both_greedy : Bool → Bool → Bool
-both_greedy outer inner = not outer && not inner
+abbrev pub both_zero : ℕ → ℕ → Bool
+both_zero outer inner = eqb outer 0 && eqb inner 0
 
-greedy_word : (outer inner : Bool) → not (outer || inner) ≡ both_greedy (flag_of (bit_of outer)) (flag_of (bit_of inner))
+greedy_word : (outer inner : Bool) → not (outer || inner) ≡ both_zero (bit_of outer) (bit_of inner)
 greedy_word false false = refl
 greedy_word false true = refl
 greedy_word true false = refl
 greedy_word true true = refl
 
+-- The laziness of a quantifier, by what its word says.
+abbrev pub absorbs : Bool → Bool → Bool
+absorbs outer inner = not outer || inner
+
+absorbed_flag : (inner outer : Bool) → absorbed inner outer ≡ absorbs (flag_of (bit_of outer)) (flag_of (bit_of inner))
+absorbed_flag false false = refl
+absorbed_flag false true = refl
+absorbed_flag true false = refl
+absorbed_flag true true = refl
+
+same_flag : (outer inner : Bool) → beq outer inner ≡ beq (flag_of (bit_of outer)) (flag_of (bit_of inner))
+same_flag false false = refl
+same_flag false true = refl
+same_flag true false = refl
+same_flag true true = refl
+
+abbrev pub both_greedy : Bool → Bool → Bool
+both_greedy outer inner = not outer && not inner
+
+greedy_flag : (outer inner : Bool) → not (outer || inner) ≡ both_greedy (flag_of (bit_of outer)) (flag_of (bit_of inner))
+greedy_flag false false = refl
+greedy_flag false true = refl
+greedy_flag true false = refl
+greedy_flag true true = refl
+
 -- T5, T9 and T10: such a quantifier over another, by what the laws ask of the laziness.
-abbrev pub lazy_words : (Bool → Bool → Bool) → Node → Bool
+abbrev pub lazy_words : (ℕ → ℕ → Bool) → Node → Bool
 lazy_words f = on_part (λ r q. f (own_of r).lazy (own_of q).lazy)
+
+-- The same, where a test asks only whether each word says lazy.
+abbrev pub lazy_flags : (Bool → Bool → Bool) → Node → Bool
+lazy_flags f = lazy_words (λ o i. f (flag_of o) (flag_of i))
 
 shuffle : (a b c d : Bool) → ((a && b) && c && d) ≡ ((a && (b && d)) && c)
 shuffle true true true true = refl
@@ -236,9 +262,9 @@ unnested : (least most : ℕ) (o : Record) (q : Node) (b : Bool) → (kind_of q 
     → false ≡ (nested_in least most o (own_of q) && b)
 unnested least most o q b h = rw (ne_eqb (kind_of q) quantifier_kind h, and_false (ranged o least most))
 
-module _ (least : ℕ) (more : Option ℕ) (most : ℕ) (lazyTest : Bool → Bool → Bool) (wordTest : Bool → Bool → Bool)
+module _ (least : ℕ) (more : Option ℕ) (most : ℕ) (lazyTest : Bool → Bool → Bool) (wordTest : ℕ → ℕ → Bool)
     (made : Bool → Node → Node) (outside : Counted least more most) (inside : Counted 0 more most)
-    (asWords : (inner outer : Bool) → lazyTest inner outer ≡ wordTest (flag_of (bit_of outer)) (flag_of (bit_of inner))) where
+    (asWords : (inner outer : Bool) → lazyTest inner outer ≡ wordTest (bit_of outer) (bit_of inner)) where
   nested_words : (n : ℕ) (e : Option ℕ) (lazy : Bool) (q : Node) → Proper (many n e lazy q)
       → is_some (on_many (λ m f inner r. when (counts n e least more && counts m f 0 more && lazyTest inner lazy && group_free r)
       (made lazy r)) q)
@@ -252,7 +278,7 @@ module _ (least : ℕ) (more : Option ℕ) (most : ℕ) (lazyTest : Bool → Boo
         asWords inner lazy,
         free_highest q (proper_positive q h.1.1),
       ) (shuffle (ranged (own_of (many n e lazy (many m f inner q))) least most) (ranged (own_of (many m f inner q)) 0 most)
-      (wordTest (flag_of (bit_of lazy)) (flag_of (bit_of inner))) (eqb (hi q) 0))
+      (wordTest (bit_of lazy) (bit_of inner)) (eqb (hi q) 0))
   nested_words n e lazy empty h = unnested least most (own_of (many n e lazy empty)) empty _ (λ e. omega arith)
   nested_words n e lazy (bset s) h = unnested least most (own_of (many n e lazy (bset s))) (bset s) _ (λ e. omega arith)
   nested_words n e lazy (assert a) h = unnested least most (own_of (many n e lazy (assert a))) (assert a) _ (λ e. omega arith)
@@ -271,13 +297,26 @@ module _ (least : ℕ) (more : Option ℕ) (most : ℕ) (lazyTest : Bool → Boo
   nested_fits (alt r q) h = refl
   nested_fits (many n e lazy q) h = nested_words n e lazy q h
 
-pub t5_words : (r : Node) → Proper r → fits t5 r ≡ (is_nested 0 no_maximum r && lazy_words absorbs r)
-t5_words = nested_fits 0 none no_maximum absorbed absorbs (λ lazy r. many 0 none lazy r) (none_more 0) (none_more 0) absorbed_word
+pub t5_words : (r : Node) → Proper r → fits t5 r ≡ (is_nested 0 no_maximum r && lazy_words leb r)
+t5_words = nested_fits 0 none no_maximum absorbed leb (λ lazy r. many 0 none lazy r) (none_more 0) (none_more 0) absorbed_word
 
-pub t9_words : (r : Node) → Proper r → fits t9 r ≡ (is_nested 0 1 r && lazy_words beq r)
-t9_words = nested_fits 0 (some 1) 1 (λ inner outer. beq outer inner) beq (λ lazy r. many 0 (some 1) lazy r)
+pub t9_words : (r : Node) → Proper r → fits t9 r ≡ (is_nested 0 1 r && lazy_words eqb r)
+t9_words = nested_fits 0 (some 1) 1 (λ inner outer. beq outer inner) eqb (λ lazy r. many 0 (some 1) lazy r)
     one_more one_more (λ inner outer. same_word outer inner)
 
-pub t10_words : (r : Node) → Proper r → fits t10 r ≡ (is_nested 1 no_maximum r && lazy_words both_greedy r)
-t10_words = nested_fits 1 none no_maximum (λ inner outer. not (outer || inner)) both_greedy (λ lazy r. many 0 none false r)
+pub t10_words : (r : Node) → Proper r → fits t10 r ≡ (is_nested 1 no_maximum r && lazy_words both_zero r)
+t10_words = nested_fits 1 none no_maximum (λ inner outer. not (outer || inner)) both_zero (λ lazy r. many 0 none false r)
     (none_more 1) (none_more 0) (λ inner outer. greedy_word outer inner)
+
+-- The same laws by whether each word says lazy, as the code asks: a word is 0 or 1, so no more is in it.
+pub t5_flags : (r : Node) → Proper r → fits t5 r ≡ (is_nested 0 no_maximum r && lazy_flags absorbs r)
+t5_flags = nested_fits 0 none no_maximum absorbed (λ o i. absorbs (flag_of o) (flag_of i)) (λ lazy r. many 0 none lazy r)
+    (none_more 0) (none_more 0) absorbed_flag
+
+pub t9_flags : (r : Node) → Proper r → fits t9 r ≡ (is_nested 0 1 r && lazy_flags beq r)
+t9_flags = nested_fits 0 (some 1) 1 (λ inner outer. beq outer inner) (λ o i. beq (flag_of o) (flag_of i))
+    (λ lazy r. many 0 (some 1) lazy r) one_more one_more (λ inner outer. same_flag outer inner)
+
+pub t10_flags : (r : Node) → Proper r → fits t10 r ≡ (is_nested 1 no_maximum r && lazy_flags both_greedy r)
+t10_flags = nested_fits 1 none no_maximum (λ inner outer. not (outer || inner)) (λ o i. both_greedy (flag_of o) (flag_of i))
+    (λ lazy r. many 0 none false r) (none_more 1) (none_more 0) (λ inner outer. greedy_flag outer inner)

@@ -5,12 +5,13 @@
 mod quantifiers; // quantifiers.rt: the tests of T2 to T5, T9 and T10, laws for a quantifier
 pub mod series; // series.rt: the tests of T1 and T6 to T8, laws for items and alternatives
 
+ghost use Rattle.std.specs.Prelude.{◌≡◌};
 ghost use Rattle.table.specs.Laws.{last_of};
 ghost use Rattle.tidying_laws.specs.ByNumber.{law_of, number_of};
 ghost use Rattle.tidying_fitting.specs.Fitting.{fits};
 ghost use Rattle.table.specs.Stands.{SomePart};
 ghost use Rattle.tidying_fitting.specs.Parts.{Tells};
-ghost use Rattle.tidying_fitting.specs.Words.{own_of, start_of};
+ghost use Rattle.tidying_fitting.specs.Words.{flag_of, own_of, start_of};
 
 use quantifiers::{loop_of_loop, loop_once_of_loop, once_or_never, option_of_option, over};
 use series::{has_wanted, void_part};
@@ -29,7 +30,16 @@ pub struct Record {
     pub highest: u32,
     pub least: u32,
     pub most: u32,
-    pub lazy: bool,
+    pub lazy: u32,
+}
+
+impl Record {
+    // Whether it says lazy: 0 is greedy.
+    pub fn is_lazy(self) -> bool
+        ensures { result ≡ flag_of self.lazy }
+    {
+        self.lazy != 0
+    }
 }
 
 // What a law looks for among the parts of a series: T1 an empty item, T6 an alternative without groups that equals an
@@ -54,7 +64,7 @@ pub fn own(table: &[u32], top: usize) -> Record
         highest: word(table, top, HIGHEST),
         least: word(table, top, LEAST),
         most: word(table, top, MOST),
-        lazy: word(table, top, LAZY) != 0,
+        lazy: word(table, top, LAZY),
     }
 }
 

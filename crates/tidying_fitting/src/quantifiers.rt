@@ -48,7 +48,8 @@ pub fn loop_of_loop(table: &[u32], top: usize) -> bool
     requires { SomePart table.now top }
     ensures { Tells result table.now top (fits t5) }
 {
-    nested(table, top, 0, NO_MAXIMUM) && (!own(table, top).lazy || own(table, top - 1).lazy)
+    nested(table, top, 0, NO_MAXIMUM)
+        && (!own(table, top).is_lazy() || own(table, top - 1).is_lazy())
 }
 
 // T9: (?:r?)? and (?:r??)??.
@@ -56,7 +57,7 @@ pub fn option_of_option(table: &[u32], top: usize) -> bool
     requires { SomePart table.now top }
     ensures { Tells result table.now top (fits t9) }
 {
-    nested(table, top, 0, 1) && own(table, top).lazy == own(table, top - 1).lazy
+    nested(table, top, 0, 1) && own(table, top).is_lazy() == own(table, top - 1).is_lazy()
 }
 
 // T10: (?:r*)+, both greedy.
@@ -64,5 +65,10 @@ pub fn loop_once_of_loop(table: &[u32], top: usize) -> bool
     requires { SomePart table.now top }
     ensures { Tells result table.now top (fits t10) }
 {
-    nested(table, top, 1, NO_MAXIMUM) && !own(table, top).lazy && !own(table, top - 1).lazy
+    if !nested(table, top, 1, NO_MAXIMUM) {
+        return false;
+    }
+    let outer = own(table, top);
+    let inner = own(table, top - 1);
+    !outer.is_lazy() && !inner.is_lazy()
 }

@@ -1,31 +1,31 @@
 -- What was read is stored in its table, or is refused as the reading says. Assumes nothing.
-use mathlib.Core.Path.{refl}
+use mathlib.Core.Path.{ap}
 use Rattle.std.proofs.Common.{rules}
-use Rattle.std.proofs.lemmas.Result.{err_from_is_err_and}
+use Rattle.reading.specs.Answers.{reading_of}
 use Rattle.reading_atoms.specs.Places.{bytes_of}
 use Rattle.compiler.specs.Given.{given, given_some}
 use Rattle.compiler.proofs.Laws.{turned_away_lem, too_many, programmed}
 use Rattle.compiler.proofs.read_small.Goals as goal
 
 pub many_rows-requires : goal.many_rows-requires
-many_rows-requires c = given_some (given (bytes_of _ c.type_inv.pattern) (search rules) c.in_ok-read.ensures refl)
+many_rows-requires c =
+    given_some (given (bytes_of _ c.type_inv.pattern) (search rules) c.read.ensures (ap reading_of c.in-Ok.is))
 
-pub returns-in_err-read : goal.returns-in_err-read
-returns-in_err-read c =
-    let p = err_from_is_err_and c.from_residual.result c.from_residual.ensures.1 in
-    rw (p.1, p.2) (record { by = λ tidying code. turned_away_lem c.in_err-read.ensures refl })
+pub returns-in-Err : goal.returns-in-Err
+returns-in-Err c = record { by = λ tidying code. turned_away_lem c.read.ensures (ap reading_of c.in-Err.is) }
 
 pub returns-then-many_rows : goal.returns-then-many_rows
 returns-then-many_rows c = record {
   by = λ tidying code.
-      programmed (search rules) (given (bytes_of _ c.type_inv.pattern) (search rules) c.in_ok-read.ensures refl)
+      programmed (search rules)
+      (given (bytes_of _ c.type_inv.pattern) (search rules) c.read.ensures (ap reading_of c.in-Ok.is))
       (too_many c.many_rows.ensures c.if-many_rows.true c.without_program.ensures);
 }
 
-pub returns : goal.returns
-returns c = record {
+pub returns-else-many_rows : goal.returns-else-many_rows
+returns-else-many_rows c = record {
   by = record {
-    given = given (bytes_of _ c.type_inv.pattern) (search rules) c.in_ok-read.ensures refl;
+    given = given (bytes_of _ c.type_inv.pattern) (search rules) c.read.ensures (ap reading_of c.in-Ok.is);
     few = rw c.if-many_rows.false at c.many_rows.ensures;
     same = search rules;
   };

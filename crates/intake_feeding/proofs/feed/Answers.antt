@@ -9,7 +9,7 @@ use Rattle.intake_feeding.proofs.feed.Goals as goal
 
 pub loop-byte-init : goal.loop-byte-init
 loop-byte-init c =
-    let long : length c.args.space.now.line ≡ kept_limit = search rules in
+    let long : length c.args.line.now ≡ kept_limit = search rules in
     record {
       feeding = feeding_none c.args.kept long (c.min.ensures ∙ ap (λ n. min c.args.kept n) (sym long));
       at = refl;
@@ -19,8 +19,8 @@ loop-byte-init c =
 pub loop-byte-preserved : goal.loop-byte-preserved
 loop-byte-preserved c =
     let i = c.loop-byte.invariant in
-    let step = subst (λ (n : ℕ). Steps c.loop-byte.fed (get_or c.args.piece.now n 0) c.loop-byte.space.line c.step.new.space.line
-    c.loop-byte.space.buffers.code c.step.new.space.buffers.code c.loop-byte.out c.step.new.out c.step.result) (sym i.at) c.step.ensures in
+    let step = subst (λ (n : ℕ). Steps c.loop-byte.fed (get_or c.args.piece.now n 0) c.loop-byte.line c.step.new.line
+    c.loop-byte.code c.step.new.code c.loop-byte.out c.step.new.out c.step.result) (sym i.at) c.step.ensures in
     record {
       feeding = feeding_more i.feeding (omega arith) (omega (arith, wrote_length i.feeding.text_is)) step;
       at = omega arith;

@@ -6,9 +6,8 @@ use Rattle.intake_feeding.proofs.feed.Given as goal
 
 abbrev pub invariant-loop-byte : goal.invariant-loop-byte
 invariant-loop-byte l = record {
-  feeding : Feeding (work_of l.initial.fed.phase l.kept l.initial.space.line l.initial.space.buffers.code) l.piece l.space.line
-      l.space.buffers.code l.initial.out l.out l.fed;
+  feeding : Feeding (work_of l.initial.fed.phase l.kept l.initial.line l.initial.code) l.piece l.line l.code
+      l.initial.out l.out l.fed;
   at : l.fed.taken ≡ l.byte-index;
-  untouched : l.fed.taken ≡ 0 → Untouched l.initial.space.line l.space.line l.initial.space.buffers.table l.space.buffers.table
-      l.initial.space.buffers.workspace l.space.buffers.workspace;
+  untouched : l.fed.taken ≡ 0 → Untouched l.initial.line l.line l.initial.table l.table l.initial.workspace l.workspace;
 }

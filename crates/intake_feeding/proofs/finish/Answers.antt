@@ -7,13 +7,11 @@ use Rattle.intake_feeding.proofs.finish.Goals as goal
 
 pub returns-then-kept-eq0 : goal.returns-then-kept-eq0
 returns-then-kept-eq0 c =
-    let space = c.args.space.now in
-    let none = last_none c.args.phase c.args.kept space.line space.buffers.code (omega arith) in
+    let none = last_none c.args.phase c.args.kept c.args.line.now c.args.code.now (omega arith) in
     record { feeds = rw none c.feed.ensures.feeds; untouched = c.feed.ensures.untouched }
 
 pub returns : goal.returns
 returns c =
-    let space = c.args.space.now in
-    let long : length c.args.space.now.line ≡ kept_limit = search rules in
-    let some = last_some c.args.phase c.args.kept space.line space.buffers.code (λ e. c.if-kept-eq0.false (omega arith)) in
+    let long : length c.args.line.now ≡ kept_limit = search rules in
+    let some = last_some c.args.phase c.args.kept c.args.line.now c.args.code.now (λ e. c.if-kept-eq0.false (omega arith)) in
     record { feeds = rw some c.feed-2.ensures.feeds; untouched = c.feed-2.ensures.untouched }
