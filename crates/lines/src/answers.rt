@@ -15,17 +15,32 @@ pub fn say_spans(rt: &impl Print, values: &[i32]) -> io::Result<()>
     rt.write_all(&line[..end])
 }
 
+// A text and the number behind it, each in a write of its own: where one fails the other still stands.
+pub fn say_number(rt: &impl Print, text: &[u8], number: u64) -> io::Result<()> {
+    rt.write_all(text)?;
+    rt.print(number)
+}
+
 fn say_answer(rt: &impl Print, answer: Answer) -> io::Result<()> {
     match answer {
-        Answer::Found(rows) => print!(rt; ": found, rows {rows}"),
-        Answer::Missing(rows) => print!(rt; ": none, rows {rows}"),
+        Answer::Found(rows) => say_number(rt, b": found, rows ", rows),
+        Answer::Missing(rows) => say_number(rt, b": none, rows ", rows),
     }
+}
+
+fn say_why(rt: &impl Print, why: Refusal) -> io::Result<()> {
+    say_number(rt, b": refused ", u64::from(why.number()))
+}
+
+pub fn say_refused(rt: &impl Print, refused: Refused) -> io::Result<()> {
+    say_why(rt, refused.why)?;
+    say_number(rt, b" at ", refused.place as u64)
 }
 
 pub fn say_run(rt: &impl Print, answer: Result<Answer, Refusal>) -> io::Result<()> {
     match answer {
         Ok(answer) => say_answer(rt, answer),
-        Err(why) => print!(rt; ": {why}"),
+        Err(why) => say_why(rt, why),
     }
 }
 
@@ -67,9 +82,10 @@ where
 // What compiling answers.
 fn say_compiled(rt: &impl Print, answer: Result<Program, Refused>) -> io::Result<()> {
     match answer {
-        Ok(program) => println!(rt; ": rows {}", program.rows),
-        Err(refused) => println!(rt; ": {refused}"),
+        Ok(program) => say_number(rt, b": rows ", u64::from(program.rows))?,
+        Err(refused) => say_refused(rt, refused)?,
     }
+    rt.write_all(b"\n")
 }
 
 // The answer to a pattern compiled, with room for 1,024 rows.
@@ -105,7 +121,7 @@ pub fn found(rt: &impl Print, pattern: &[u8], text: &[u8], start: usize) -> io::
         &mut workspace,
     ) {
         Ok(answer) => say_answer(rt, answer)?,
-        Err(refused) => print!(rt; ": {refused}")?,
+        Err(refused) => say_refused(rt, refused)?,
     }
     say_spans(rt, &registers)
 }
@@ -117,9 +133,14 @@ pub fn say_listing(
     list: &[i32; 8],
 ) -> io::Result<()> {
     match listing {
-        Ok(listed) => print!(rt; ": matches {}, rows {}", listed.matches, listed.count)?,
-        Err(Unlisted::Short { needed }) => print!(rt; ": {}, needed {needed}", Refusal::ShortList)?,
-        Err(Unlisted::Refused(why)) => print!(rt; ": {why}")?,
+        Ok(listed) => {
+            say_number(rt, b": matches ", listed.matches as u64)?;
+            say_number(rt, b", rows ", listed.count)?;
+        }
+        Err(Unlisted::Short { needed }) => {
+            say_number(rt, b": refused 25, needed ", needed as u64)?
+        }
+        Err(Unlisted::Refused(why)) => say_why(rt, why)?,
     }
     say_spans(rt, list)
 }

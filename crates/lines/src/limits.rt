@@ -1,7 +1,7 @@
 // The ends of what a run takes. A text longer than any that is taken is a question for the host's tests.
 ghost use Rattle.std.specs.Prelude.{◌<◌};
 
-use crate::answers::{ENGINE_WORDS, code_of, run, say_listing, say_run, say_spans};
+use crate::answers::{ENGINE_WORDS, code_of, run, say_listing, say_number, say_run, say_spans};
 use millkettle::{Answer, Refusal};
 use std::io;
 
@@ -9,7 +9,7 @@ use std::io;
 pub fn far(rt: &impl Print) -> io::Result<()> {
     let mut text = [97u8; 70001];
     text[70000] = 98;
-    print!(rt; "search 0 b on 70000 a and b")?;
+    rt.write_all(b"search 0 b on 70000 a and b")?;
     run(
         rt,
         millkettle::search,
@@ -39,11 +39,13 @@ impl Lent {
         }
     }
 
-    fn say(&self, rt: &impl Print, call: &str, list: &str) -> io::Result<()> {
-        print!(rt;
-            "{call} a in code {} text 1 from {} {list} {} workspace {}",
-            self.code, self.start, self.list, self.workspace
-        )
+    // The call's name and the list's, and the lengths behind them.
+    fn say(&self, rt: &impl Print, call: &[u8], list: &[u8]) -> io::Result<()> {
+        say_number(rt, call, self.code as u64)?;
+        say_number(rt, b" text ", 1)?;
+        say_number(rt, b" from ", self.start as u64)?;
+        say_number(rt, list, self.list as u64)?;
+        say_number(rt, b" workspace ", self.workspace as u64)
     }
 
     // The call's answer. A workspace has at most 288 words.
@@ -66,7 +68,7 @@ impl Lent {
 
 // All that turns a run away but a long text, and then one thing less in each line: the refusals in order, with both sides of
 // each limit.
-fn runs_in_order<F>(rt: &impl Print, name: &str, call: F, enough: usize) -> io::Result<()>
+fn runs_in_order<F>(rt: &impl Print, engine: &[u8], call: F, enough: usize) -> io::Result<()>
 where
     F: Fn(&[u32], &[u8], usize, &mut [i32], &mut [u32]) -> Result<Answer, Refusal>,
     requires always { F.IsAlwaysCallable call }
@@ -81,7 +83,8 @@ where
         Lent::new(120, 1, 2, enough),
     ] {
         let mut registers = [7i32; 4];
-        lent.say(rt, name, "registers")?;
+        rt.write_all(engine)?;
+        lent.say(rt, b"match a in code ", b" registers ")?;
         if let Some(answer) = lent.call(&call, &mut registers) {
             say_run(rt, answer)?;
             say_spans(rt, &registers)?;
@@ -91,12 +94,12 @@ where
 }
 
 pub fn in_order(rt: &impl Print) -> io::Result<()> {
-    runs_in_order(rt, "match", millkettle::match_at, 288)
+    runs_in_order(rt, b"", millkettle::match_at, 288)
 }
 
 // The same in order, for the second engine: `a` on a text of one byte needs 9 * 10 * 2 + 2 words.
 pub fn plain_in_order(rt: &impl Print) -> io::Result<()> {
-    runs_in_order(rt, "plain match", millkettle::second_match, 182)
+    runs_in_order(rt, b"plain ", millkettle::second_match, 182)
 }
 
 // The same in order, for every match.
@@ -109,7 +112,7 @@ pub fn all_in_order(rt: &impl Print) -> io::Result<()> {
         Lent::new(120, 0, 2, 288),
     ] {
         let mut list = [7i32; 8];
-        lent.say(rt, "all of", "list")?;
+        lent.say(rt, b"all of a in code ", b" list ")?;
         if let Some(listing) = lent.call(millkettle::search_all, &mut list) {
             say_listing(rt, listing, &list)?;
         }
@@ -125,7 +128,7 @@ pub fn groups(rt: &impl Print) -> io::Result<()> {
     let mut workspace = [5u32; 37488];
     let pattern = b"(((((((((((((((((((((((((((((((a)))))))))))))))))))))))))))))))";
     let _ = millkettle::compile(pattern, &mut table, &mut code);
-    print!(rt; "match a in 31 groups on \"a\"")?;
+    rt.write_all(b"match a in 31 groups on \"a\"")?;
     say_run(
         rt,
         millkettle::match_at(&code, b"a", 0, &mut registers, &mut workspace),
@@ -138,7 +141,8 @@ fn search_plain(rt: &impl Print, text: &[u8]) -> io::Result<()> {
     let code = code_of(b"b");
     let mut registers = [7i32; 4];
     let mut words = [5u32; 368732];
-    print!(rt; "plain search 0 b on {} a", text.len())?;
+    say_number(rt, b"plain search 0 b on ", text.len() as u64)?;
+    rt.write_all(b" a")?;
     say_run(
         rt,
         millkettle::second_search(&code, text, 0, &mut registers, &mut words),

@@ -2,6 +2,7 @@
 // `at least -40.0` and `between -50.0 -40.0` with limits of five bytes, which are no number if they are not written as one.
 ghost use Rattle.std.specs.Prelude.{◌<◌};
 
+use crate::answers::{say_number, say_refused};
 use crate::questions::{byte_at, digit_at};
 use millkettle::{Gate, Passing};
 use std::io;
@@ -26,10 +27,13 @@ pub fn number(rt: &impl Print, question: &[u8], text: &[u8]) -> io::Result<()> {
     match millkettle::read_field(text, register_at(question, 7), register_at(question, 10)) {
         Ok(reading) => {
             let bits = bits_of(reading.value);
-            println!(rt; ": bits {bits:016x}, decimals {}", reading.decimals)
+            rt.write_all(b": bits ")?;
+            print!(rt; "{bits:016x}")?;
+            say_number(rt, b", decimals ", u64::from(reading.decimals))?;
         }
-        Err(refused) => println!(rt; ": {refused}"),
+        Err(refused) => say_refused(rt, refused)?,
     }
+    rt.write_all(b"\n")
 }
 
 // The limit that bytes of a question say.
@@ -53,8 +57,9 @@ pub fn gate(rt: &impl Print, question: &[u8], text: &[u8]) -> io::Result<()> {
         _ => Gate::Between(limit_of(question, 8, 13), limit_of(question, 14, 19)),
     };
     match millkettle::pass_field(gate, text, 0, end_of(text)) {
-        Ok(Passing::Passes) => println!(rt; ": passes"),
-        Ok(Passing::Stopped) => println!(rt; ": stopped"),
-        Err(refused) => println!(rt; ": {refused}"),
+        Ok(Passing::Passes) => rt.write_all(b": passes")?,
+        Ok(Passing::Stopped) => rt.write_all(b": stopped")?,
+        Err(refused) => say_refused(rt, refused)?,
     }
+    rt.write_all(b"\n")
 }

@@ -205,8 +205,16 @@ fn run(
         stored: 0,
         count: 0,
     };
+    // Field by field, since a copy of the whole copies the padding beside the state too, which took half as much time again.
     while let State::Runs = trial.state {
-        trial = attempt(code, text, work, layout, trial);
+        let next = attempt(code, text, work, layout, trial);
+        trial = Trial {
+            state: next.state,
+            key: next.key,
+            position: next.position,
+            stored: next.stored,
+            count: next.count,
+        };
     }
     if let State::Ended = trial.state {
         running_threads::spread(work, layout.marks, layout.width, NOWHERE);

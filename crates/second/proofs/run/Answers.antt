@@ -51,17 +51,17 @@ loop-trial-init c =
     course_first (begins (goal.at.loop-trial-init c).Start) (laid (goal.at.loop-trial-init c).Start) c.spread.auto.work c.spread.ensures
     c.spread-2.auto.work c.spread-2.ensures
 
-pub attempt-trial-requires : goal.attempt-trial-requires
-attempt-trial-requires c =
-    let b = begins (goal.at.attempt-trial-requires c).Start in
+pub attempt-next-requires : goal.attempt-next-requires
+attempt-next-requires c =
+    let b = begins (goal.at.attempt-next-requires c).Start in
     record { ready = (b.ready, b.serves); standing = (c.loop-trial.invariant.stands, ap going_of c.in-Runs.is) }
 
 pub loop-trial-smaller : goal.loop-trial-smaller
-loop-trial-smaller c = c.attempt-trial.ensures.less
+loop-trial-smaller c = c.attempt-next.ensures.less
 
 pub loop-trial-preserved : goal.loop-trial-preserved
 loop-trial-preserved c =
-    course_next c.loop-trial.invariant c.attempt-trial.auto.work c.attempt-trial.ensures
+    course_next c.loop-trial.invariant c.attempt-next.auto.work c.attempt-next.ensures
 
 pub spread-requires-in-Ended : goal.spread-requires-in-Ended
 spread-requires-in-Ended c =
