@@ -38,10 +38,10 @@ fn atom(s: &[u8], table: &mut [u32], from: Reached, depth: u32) -> Result<Reache
     if byte_at(s, from.at) != Some(b'(') {
         return single(s, table, from);
     }
-    let opening = opening_at(s, from.at, depth, from.groups)?;
+    let opening = opening_at(s, from.at, depth, from.groups as u32)?;
     let opened = Reached {
         at: opening.from,
-        groups: opening.groups,
+        groups: opening.groups as usize,
         ..from
     };
     let inside = alternatives(s, table, opened, depth + 1)?;
@@ -113,7 +113,7 @@ fn whole(pattern: &[u8], table: &mut [u32]) -> Result<Pattern, Refused>
             clear(table, RECORD_WORDS * reached.top);
             Ok(Pattern {
                 records: reached.top,
-                groups: reached.groups,
+                groups: reached.groups as u32,
             })
         }
     }

@@ -10,12 +10,12 @@ use reading_atoms::{Repeat, byte_at, quantifier_at};
 use table::{GROUP, QUANTIFIER, put};
 
 // How far a reading has come, as a reader is handed it and as it answers it: the place behind what was read, the top of the
-// table above its records, and the groups so far.
+// table above its records, and the groups so far. All three are as wide: a copy of padding waits for the stores before it.
 #[derive(Clone, Copy, Debug, PartialEq, Eq)]
 pub struct Reached {
     pub at: usize,
     pub top: usize,
-    pub groups: u32,
+    pub groups: usize,
 }
 
 // The part below the top with the quantifier that stands at the place, if there is one. Most parts have none, and make no call.

@@ -86,11 +86,8 @@ pub fn last_words(table: &[u32], top: usize) -> [u32; SET_WORDS]
     requires { (0 < top) × (record_words * top ≤ length table.now) }
     ensures { result ≡ take set_words (drop (record_words * (top - 1) + set_word) table.now) }
 {
-    let mut last = [0u32; SET_WORDS];
-    for i in 0..SET_WORDS {
-        last[i] = word(table, top, SET + i);
-    }
-    last
+    let from = RECORD_WORDS * (top - 1) + SET;
+    *table[from..from + SET_WORDS].as_array().unwrap()
 }
 
 // The derived words of the record before record number `top`.

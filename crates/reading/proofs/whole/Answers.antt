@@ -1,7 +1,8 @@
 -- What the reader of alternatives answers is the whole reading. Assumes nothing.
 use mathlib.Core.Path.{refl}
 use native.Mathlib.Omega.{arith}
-use Rattle.reading.proofs.Turns.{met_part, met_no}
+use Rattle.meaning.specs.Limits.{depth_limit}
+use Rattle.reading.proofs.Turns.{alternatives_read, met_part, met_no}
 use Rattle.reading.proofs.Readings.{fine_start, refuses, unmatched, reads_pattern}
 use Rattle.reading.proofs.whole.Goals as goal
 
@@ -19,6 +20,12 @@ overflow_mul-reached c = omega (arith, (met_part c.in-Ok.ensures refl).stands.ro
 
 pub clear-requires-in-Ok : goal.clear-requires-in-Ok
 clear-requires-in-Ok c = (met_part c.in-Ok.ensures refl).stands.room
+
+pub overflow_cast-result : goal.overflow_cast-result
+overflow_cast-result c =
+    let met = met_part c.in-Ok.ensures refl in
+    let stretch = alternatives_read (fine_start c.requires c.type_inv.pattern) depth_limit met.read in
+    omega (arith, stretch.kept.few_groups)
 
 pub returns-in-Err : goal.returns-in-Err
 returns-in-Err c =
